@@ -1,0 +1,4 @@
+pub mod CommonTypes
+pub mod RepeatedNames
+pub mod SchemaLemmas
+pub mod SupertypeLemmas

@@ -1,0 +1,12 @@
+pub mod Operators
+pub mod Integers
+pub mod Residues
+pub mod Rows
+pub mod HashInputs
+pub mod AnyValues
+pub mod Classes
+pub mod Laws
+pub mod Schemas
+pub mod Supertypes
+pub mod ValueTypes
+pub mod Frames

@@ -1,0 +1,86 @@
+-- Rows of columns: values that may be null, lengths that join, and what is done row by row.
+use Rattle.std.specs.Prelude.{ℕ, ◌==◌, ℤ, ◌+ℤ◌, Bool, true, false, cond, List, length, get_or, replicate, Option, Some, None, option_map}
+use Rattle.std.specs.Simd.Lanes.{zip2}
+use Rattle.px_types.specs.declared.value_type.ValueType.{ValueType}
+use Rattle.px_types.specs.declared.value_type.ValueType.TheVariants.{Boolean, String}
+use Rattle.px_types.specs.Integers.{into, InRange}
+
+-- a value that is not null: a truth value, the bytes of a text, or a whole number
+pub data Datum : Type 0 where
+  Truth : Bool → Datum
+  Text : List ℕ → Datum
+  Integer : ℤ → Datum
+
+-- a row is a value, or null
+abbrev pub Row : Type 0
+Row = Option Datum
+
+-- rows with their type
+pub record TypedRows : Type 0 where
+  pub kind : ValueType
+  pub rows : List Row
+
+-- a column as contracts see it, however it is kept
+pub record Contents : Type 0 where
+  pub name : List ℕ
+  pub values : TypedRows
+
+-- the row of a whole number, or of none
+abbrev pub number_row : Option ℤ → Row
+number_row (Some z) = Some (Integer z)
+number_row None = None
+
+-- the type is that of truth values
+abbrev pub IsBoolean : ValueType → Type 0
+IsBoolean Boolean = Unit {0}
+IsBoolean _ = ⊥
+
+-- the type is that of texts
+abbrev pub IsText : ValueType → Type 0
+IsText String = Unit {0}
+IsText _ = ⊥
+
+-- the row is null or a value of the type
+abbrev pub IsRowOf : ValueType → Row → Type 0
+IsRowOf kind None = Unit {0}
+IsRowOf kind (Some (Truth t)) = IsBoolean kind
+IsRowOf kind (Some (Text bytes)) = IsText kind
+IsRowOf kind (Some (Integer z)) = InRange kind z
+
+-- the truth value where the row is valid
+abbrev pub truth_entry : Bool → Bool → Row
+truth_entry t true = Some (Truth t)
+truth_entry t false = None
+
+-- the number where the row is valid
+abbrev pub entry : Bool → ℤ → Row
+entry true z = Some (Integer z)
+entry false z = None
+
+-- f of two rows of numbers, null where a row is null
+abbrev pub lift : (ℤ → ℤ → ℤ) → Row → Row → Row
+lift f (Some (Integer x)) (Some (Integer y)) = Some (Integer (f x y))
+lift f _ _ = None
+
+-- false and anything is false, true and true is true, and else a null gives null
+abbrev pub and_row : Row → Row → Row
+and_row (Some (Truth false)) y = Some (Truth false)
+and_row (Some (Truth true)) y = y
+and_row None (Some (Truth false)) = Some (Truth false)
+and_row _ _ = None
+
+-- the length to which two lengths join: they are equal, or one of them is one
+abbrev pub joined : ℕ → ℕ → Option ℕ
+joined m n = cond (m == n) (Some m) (cond (m == 1) (Some n) (cond (n == 1) (Some m) None))
+
+-- n times the row of a list of one row; a list of another length stays as it is
+abbrev pub stretch : ℕ → List Row → List Row
+stretch n rows = cond (length rows == 1) (replicate n (get_or rows 0 None)) rows
+
+-- f row by row of two lists, each stretched to the length to which they join; none where they do not join
+abbrev pub row_by_row : (Row → Row → Row) → List Row → List Row → Option (List Row)
+row_by_row f xs ys = option_map (λ n. zip2 f (stretch n xs) (stretch n ys)) (joined (length xs) (length ys))
+
+-- the sums of two columns of one integer type, taken into the type
+unfoldable pub plus_rows : TypedRows → TypedRows → Option TypedRows
+plus_rows a b = option_map (λ rows. record { kind = a.kind; rows = rows }) (row_by_row (lift (λ x y. into a.kind (x +ℤ y))) a.rows b.rows)

@@ -1,0 +1,31 @@
+//! The types of columns, the operators over them, and what contracts say of rows.
+#![tactic(auto)]
+
+mod any_value;
+mod class;
+mod dtype;
+mod duplicate;
+mod hashing;
+mod kinds;
+mod laws;
+mod operator;
+mod same;
+mod schema;
+mod supertype;
+mod value_type;
+
+pub use any_value::{AnyValue, materialize_dyn_int};
+pub use dtype::{DataType, Field, FieldList, TypeList};
+pub use kinds::{CastOptions, TimeUnit, UnknownKind};
+pub use laws::{
+    common_is_commutative, common_is_idempotent, first_repeated_is_found, null_is_neutral,
+    null_is_neutral_in_supertype, supertype_is_commutative, supertype_is_idempotent,
+};
+pub use operator::Operator;
+pub use px_base::{Boxed, Items, List, PlanError, SmallStr, Steps, TryClone, boxed};
+pub use schema::Schema;
+pub use supertype::try_get_supertype;
+pub use value_type::{ValueType, default_type};
+
+#[cfg(test)]
+mod tests;
