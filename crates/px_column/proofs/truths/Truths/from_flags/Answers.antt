@@ -1,0 +1,14 @@
+use Rattle.std.proofs.Common.{◌∙◌, ◌&&◌, ap, length}
+use Rattle.std.proofs.lemmas.Simd.{length-zip2}
+use Rattle.px_column.proofs.Truth.{masked, and_within}
+use Rattle.px_column.proofs.truths.Truths.from_flags.Goals as goal
+
+pub invariant_of-result : goal.invariant_of-result
+invariant_of-result c = record {
+  long = ap length c.in_ok-truth.ensures ∙ length-zip2 (λ x y. x && y) c.in_ok-all.all c.args.valid (ap length c.in_ok-all.ensures ∙ c.requires) ∙ ap length c.in_ok-all.ensures ∙ c.requires;
+  within = rw (c.in_ok-truth.ensures) (and_within c.in_ok-all.all c.args.valid);
+}
+
+pub returns : goal.returns
+returns c =
+    rw (c.in_ok-truth.ensures, c.in_ok-all.ensures) (masked c.args.flags.now c.args.valid)

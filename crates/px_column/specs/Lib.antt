@@ -1,0 +1,4 @@
+pub mod BitsOf
+pub mod NumbersOf
+pub mod ColumnOf
+pub mod FrameOf
