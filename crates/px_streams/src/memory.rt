@@ -1,0 +1,199 @@
+//! Sources and sinks over memory.
+ghost use Rattle.std.specs.Prelude.{◌≡◌, ◌≤◌, ℕ, [], length, drop, IfOk};
+ghost use Rattle.std.specs.Prelude.{Some, None};
+ghost use Rattle.px_base.specs.Answer.{GivesOrMemory};
+
+use crate::failed::Failed;
+use crate::sink::Sink;
+use crate::source::Source;
+use px_base::PlanError;
+use std::alloc::Global;
+use std::marker::Model;
+
+/// A source over bytes whose reads are numbered from 0. Those in `failing` fail and take nothing;
+/// each other read gives as many bytes as the buffer holds. The number stops at 2^64 - 1.
+#[derive(Drop)]
+pub struct MemorySource {
+    bytes: Vec<u8>,
+    at: usize,
+    failing: Vec<u64>,
+    next: u64,
+    faults: u64,
+}
+
+impl Model for MemorySource {
+    ghost use Rattle.std.specs.Prelude.{◌≤◌, length, drop};
+    ghost use Rattle.px_streams.specs.Memory.{Readable};
+
+    ghost Value = { Readable };
+
+    ghost view = { λ s. record { left = drop s.at s.bytes.items; next = s.next; failing = s.failing.items; faults = s.faults } };
+
+    ghost invariant = { λ s. s.at ≤ length s.bytes.items };
+}
+
+impl MemorySource {
+    /// A source of these bytes, whose reads at the listed numbers fail.
+    pub fn new(alloc: Global, bytes: &[u8], failing: &[u64]) -> Result<MemorySource, PlanError>
+        ensures { GivesOrMemory result (record { left = bytes.now; next = 0; failing = failing.now; faults = 0 }) }
+    {
+        Ok(MemorySource {
+            bytes: bytes.to_vec(alloc)?,
+            at: 0,
+            failing: failing.to_vec(alloc)?,
+            next: 0,
+            faults: 0,
+        })
+    }
+
+    /// The bytes that are left.
+    pub fn left(&self) -> &[u8]
+        ensures { result.now ≡ self.now.left }
+    {
+        &self.bytes[self.at..]
+    }
+}
+
+impl Source for MemorySource {
+    ghost left = { λ s. Some s.left };
+
+    ghost faults = { λ s. s.faults };
+
+    fn read(&mut self, buffer: &mut [u8]) -> Result<usize, Failed> {
+        let number = self.next;
+        self.next = number.saturating_add(1);
+        if self.failing.contains(&number) {
+            self.faults = self.faults.saturating_add(1);
+            return Err(Failed {});
+        }
+        let count = buffer.len().min(self.bytes.len() - self.at);
+        buffer[..count].copy_from_slice(&self.bytes[self.at..self.at + count]);
+        self.at += count;
+        Ok(count)
+    }
+}
+
+/// A source over bytes that never fails. Each read gives as many bytes as the buffer holds.
+#[derive(Drop)]
+pub struct SteadySource {
+    bytes: Vec<u8>,
+    at: usize,
+}
+
+impl Model for SteadySource {
+    ghost use Rattle.std.specs.Prelude.{ℕ, List, ◌≤◌, length, drop};
+
+    ghost Value = { List ℕ };
+
+    ghost view = { λ s. drop s.at s.bytes.items };
+
+    ghost invariant = { λ s. s.at ≤ length s.bytes.items };
+}
+
+impl SteadySource {
+    /// A source of these bytes.
+    pub fn new(alloc: Global, bytes: &[u8]) -> Result<SteadySource, PlanError>
+        ensures { GivesOrMemory result bytes.now }
+    {
+        Ok(SteadySource {
+            bytes: bytes.to_vec(alloc)?,
+            at: 0,
+        })
+    }
+}
+
+impl Source for SteadySource {
+    ghost left = { λ s. Some s };
+
+    ghost faults = { λ _. 0 };
+
+    fn read(&mut self, buffer: &mut [u8]) -> Result<usize, Failed> {
+        let count = buffer.len().min(self.bytes.len() - self.at);
+        buffer[..count].copy_from_slice(&self.bytes[self.at..self.at + count]);
+        self.at += count;
+        Ok(count)
+    }
+}
+
+/// A sink with room for so many bytes, taken at the start. Writes are numbered from 0. Those in
+/// `failing` fail, and so does the write of a piece of which nothing fits; each other write takes
+/// what fits. The number stops at 2^64 - 1.
+#[derive(Drop)]
+pub struct MemorySink {
+    bytes: Vec<u8>,
+    room: usize,
+    failing: Vec<u64>,
+    next: u64,
+    faults: u64,
+}
+
+impl Model for MemorySink {
+    ghost use Rattle.px_streams.specs.Memory.{Writable};
+
+    ghost Value = { Writable };
+
+    ghost view = { λ s. record { held = s.bytes.items; room = s.room; next = s.next; failing = s.failing.items; faults = s.faults } };
+}
+
+impl MemorySink {
+    /// An empty sink with this room, whose writes at the listed numbers fail.
+    pub fn new(alloc: Global, room: usize, failing: &[u64]) -> Result<MemorySink, PlanError>
+        ensures { GivesOrMemory result (record { held = []; room = room; next = 0; failing = failing.now; faults = 0 }) }
+    {
+        Ok(MemorySink {
+            bytes: Vec::with_capacity(alloc, room)?,
+            room,
+            failing: failing.to_vec(alloc)?,
+            next: 0,
+            faults: 0,
+        })
+    }
+
+    /// The bytes that it holds.
+    pub fn held(&self) -> &[u8]
+        ensures { result.now ≡ self.now.held }
+    {
+        self.bytes.as_slice()
+    }
+}
+
+impl Sink for MemorySink {
+    ghost held = { λ s. Some s.held };
+
+    ghost faults = { λ s. s.faults };
+
+    fn write(&mut self, piece: &[u8]) -> Result<usize, Failed> {
+        let number = self.next;
+        self.next = number.saturating_add(1);
+        let count = piece.len().min(self.room.saturating_sub(self.bytes.len()));
+        let full = count == 0 && !piece.is_empty();
+        if full
+            || self.failing.contains(&number)
+            || self.bytes.extend_from_slice(&piece[..count]).is_err()
+        {
+            self.faults = self.faults.saturating_add(1);
+            return Err(Failed {});
+        }
+        Ok(count)
+    }
+}
+
+/// A sink that takes every piece, keeps nothing and never fails.
+#[derive(Clone, Copy, Debug)]
+pub struct SteadySink {}
+
+impl SteadySink {
+    pub fn new() -> SteadySink {
+        SteadySink {}
+    }
+}
+
+impl Sink for SteadySink {
+    ghost held = { λ _. None };
+
+    ghost faults = { λ _. 0 };
+
+    fn write(&mut self, piece: &[u8]) -> Result<usize, Failed> {
+        Ok(piece.len())
+    }
+}
