@@ -1,0 +1,10 @@
+use Rattle.std.proofs.Common.{true≢false, sym, ◌∙◌}
+use Rattle.px_document.proofs.Bytes.{value_read, value_refused}
+use Rattle.px_document.proofs.document.value_of_bytes.Goals as goal
+
+pub returns-in-Ok : goal.returns-in-Ok
+returns-in-Ok c = value_read c.args.bytes.now _ c.in-Ok.ensures.ok.0 c.in-Ok.ensures.ok.1
+
+pub returns-else-is_memory : goal.returns-else-is_memory
+returns-else-is_memory c =
+    value_refused c.args.bytes.now (c.in-Err.ensures.err (λ memory. true≢false (sym (c.is_memory.ensures.1 memory) ∙ c.if-is_memory.false)))
