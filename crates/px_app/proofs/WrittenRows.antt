@@ -3,7 +3,8 @@ use Rattle.std.proofs.Common.{◌≡◌, ◌∙◌, ℕ, List, [], ◌∷◌, Bo
 use Rattle.std.specs.Str.{bytes_eq}
 use Rattle.px_types.specs.declared.operator.Operator.{Operator}
 use Rattle.px_types.specs.declared.operator.Operator.TheVariants.{Plus}
-use Rattle.px_types.specs.Rows.{Row, TypedRows, Contents, plus_rows}
+use Rattle.px_types.specs.Arithmetic.{arith_rows}
+use Rattle.px_types.specs.Rows.{Row, TypedRows, Contents}
 use Rattle.px_types.specs.Frames.{column_named}
 use Rattle.px_expr.specs.declared.literal.LiteralValue.TheVariants.{Int32}
 use Rattle.px_expr.specs.Tree.{Node, Alias, Column, Literal, Binary, Tree, tree, Trees, none, more, fold_trees}
@@ -40,8 +41,8 @@ summed : (a b : TypedRows) (o : Option (List Row)) → is_written a.kind ≡ tru
 summed a b (Some rows) h = h
 summed a b None h = tt
 
-plus_written : (a b : TypedRows) → is_written a.kind ≡ true → IsOfWritten (plus_rows a b)
-unfolding plus_rows
+plus_written : (a b : TypedRows) → is_written a.kind ≡ true → IsOfWritten (arith_rows Plus a b)
+unfolding arith_rows
 plus_written a b h = summed a b _ h
 
 binary_written : (op : Operator) (a b : TypedRows) → is_written a.kind ≡ true → IsOfWritten (binary_rows op a b)

@@ -1,8 +1,6 @@
 //! The program as a library: from a document's bytes to a report's, over any source and sink.
 #![tactic(auto)]
 
-#[cfg(test)]
-mod memory_tests;
 mod reply;
 mod run;
 #[cfg(test)]

@@ -7,6 +7,8 @@ mod copy;
 mod error;
 mod list;
 mod steps;
+#[cfg(test)]
+mod tests;
 mod text;
 
 pub use boxes::boxed;

@@ -1,6 +1,4 @@
-pub mod Planes
-pub mod Entries
-pub mod Truth
-pub mod Joins
-pub mod Kernels
 pub mod Framed
+pub mod KernelRows
+pub mod LawLemmas
+pub mod SameRows

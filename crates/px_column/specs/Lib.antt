@@ -1,4 +1,5 @@
-pub mod BitsOf
-pub mod NumbersOf
 pub mod ColumnOf
 pub mod FrameOf
+pub mod Values
+pub mod Laws
+pub mod HashInput

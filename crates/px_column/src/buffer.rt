@@ -1,20 +1,24 @@
 //! The rows of a column, in the form that their type takes.
-ghost use Rattle.std.specs.Prelude.{◌≡◌, ◌⊎◌, ◌<◌, ◌^◌, length, replicate, get_or, Some, None, IfOk, IfErr, ◌+ℤ◌};
+ghost use Rattle.std.specs.Prelude.{◌≡◌, ◌⊎◌, ◌<◌, ◌^◌, ◌↔◌, length, map, replicate, get_or, Some, None, is_some, IfOk, IfErr, IfSome, IsSome};
 ghost use Rattle.std.specs.Simd.Lanes.{Each1};
 ghost use Rattle.px_base.specs.Answer.{GivesOrMemory};
-ghost use Rattle.px_types.specs.Integers.{into, IsInteger};
-ghost use Rattle.px_types.specs.Rows.{IsRowOf, lift, row_by_row};
-ghost use Rattle.px_column.specs.ColumnOf.{kind_of, rows_of};
+ghost use Rattle.px_types.specs.Integers.{IsInteger};
+ghost use Rattle.px_types.specs.Logic.{logic_row, inverse_row, IsLogic};
+ghost use Rattle.px_types.specs.Rows.{IsRowOf, IsBoolean, number_row, null_count, row_by_row};
+ghost use Rattle.px_column.specs.ColumnOf.{kind_of, rows_of, HoldsIntegers};
+ghost use Rattle.px_column.specs.Values.{row_of, IsValueOf};
 
-use crate::numbers::Numbers;
-use crate::truths::Truths;
-use px_types::{PlanError, ValueType};
+use px_rows::{Bits, Numbers, Texts, Truths};
+use px_types::{AnyValue, Operator, PlanError, ValueType};
 use std::alloc::{AllocError, Global};
 
 /// The rows of a column.
 #[derive(Drop)]
 pub enum Buffer {
+    /// So many nulls.
+    Null(u32),
     Boolean(Truths),
+    Text(Texts),
     Int8(Numbers<i8>),
     Int16(Numbers<i16>),
     Int32(Numbers<i32>),
@@ -25,13 +29,58 @@ pub enum Buffer {
     UInt64(Numbers<u64>),
 }
 
+macro_rules! numbers {
+    ($variant:ident, $alloc:expr, $values:expr) => {
+        match Numbers::from_options($alloc, $values)? {
+            Some(rows) => Ok(Some(Buffer::$variant(rows))),
+            None => Ok(None),
+        }
+    };
+}
+
+macro_rules! value {
+    ($variant:ident, $rows:expr, $i:expr) => {
+        match $rows.get($i) {
+            Some(value) => AnyValue::$variant(value),
+            None => AnyValue::Null,
+        }
+    };
+}
+
 impl Buffer {
+    /// The values as rows of a type. None where it is no integer type, or one of them is outside it.
+    pub fn from_integers(
+        alloc: Global,
+        kind: ValueType,
+        values: &[Option<i128>],
+    ) -> Result<Option<Buffer>, PlanError>
+        requires { length values.now < 2 ^ 32 }
+        ensures kind { IfOk result (λ o. IfSome o (λ b. kind_of b ≡ kind)) }
+        ensures rows { IfOk result (λ o. IfSome o (λ b. rows_of b ≡ map number_row values.now)) }
+        ensures inside { IfOk result (λ o. IsSome o ↔ HoldsIntegers (Some kind) values.now) }
+        ensures err { IfErr result (λ e. e ≡ PlanError.OutOfMemory) }
+    {
+        match kind {
+            ValueType::Int8 => numbers!(Int8, alloc, values),
+            ValueType::Int16 => numbers!(Int16, alloc, values),
+            ValueType::Int32 => numbers!(Int32, alloc, values),
+            ValueType::Int64 => numbers!(Int64, alloc, values),
+            ValueType::UInt8 => numbers!(UInt8, alloc, values),
+            ValueType::UInt16 => numbers!(UInt16, alloc, values),
+            ValueType::UInt32 => numbers!(UInt32, alloc, values),
+            ValueType::UInt64 => numbers!(UInt64, alloc, values),
+            _ => Ok(None),
+        }
+    }
+
     /// The type of the rows.
     pub fn kind(&self) -> ValueType
         ensures { result ≡ kind_of self.now }
     {
         match self {
+            Buffer::Null(_) => ValueType::Null,
             Buffer::Boolean(_) => ValueType::Boolean,
+            Buffer::Text(_) => ValueType::String,
             Buffer::Int8(_) => ValueType::Int8,
             Buffer::Int16(_) => ValueType::Int16,
             Buffer::Int32(_) => ValueType::Int32,
@@ -49,7 +98,9 @@ impl Buffer {
         ensures typed { Each1 (IsRowOf (kind_of self.now)) (rows_of self.now) }
     {
         match self {
+            Buffer::Null(len) => *len,
             Buffer::Boolean(rows) => rows.len() as u32,
+            Buffer::Text(rows) => rows.len() as u32,
             Buffer::Int8(rows) => rows.len() as u32,
             Buffer::Int16(rows) => rows.len() as u32,
             Buffer::Int32(rows) => rows.len() as u32,
@@ -61,13 +112,73 @@ impl Buffer {
         }
     }
 
-    /// The same rows.
-    pub fn try_clone(&self, alloc: Global) -> Result<Buffer, AllocError>
-        ensures kind { IfOk result (λ b. kind_of b ≡ kind_of self.now) }
-        ensures rows { IfOk result (λ b. rows_of b ≡ rows_of self.now) }
+    /// Row `i`.
+    pub fn get(&self, i: usize) -> AnyValue<'_>
+        requires { i < length (rows_of self.now) }
+        ensures row { row_of result ≡ get_or (rows_of self.now) i None }
+        ensures kind { IsValueOf (kind_of self.now) result }
     {
         match self {
+            Buffer::Null(_) => AnyValue::Null,
+            Buffer::Boolean(rows) => value!(Boolean, rows, i),
+            Buffer::Text(rows) => value!(String, rows, i),
+            Buffer::Int8(rows) => value!(Int8, rows, i),
+            Buffer::Int16(rows) => value!(Int16, rows, i),
+            Buffer::Int32(rows) => value!(Int32, rows, i),
+            Buffer::Int64(rows) => value!(Int64, rows, i),
+            Buffer::UInt8(rows) => value!(UInt8, rows, i),
+            Buffer::UInt16(rows) => value!(UInt16, rows, i),
+            Buffer::UInt32(rows) => value!(UInt32, rows, i),
+            Buffer::UInt64(rows) => value!(UInt64, rows, i),
+        }
+    }
+
+    /// The number of nulls.
+    pub fn null_count(&self) -> u32
+        ensures { result ≡ null_count (rows_of self.now) }
+    {
+        match self {
+            Buffer::Null(len) => *len,
+            Buffer::Boolean(rows) => rows.valid().zeros() as u32,
+            Buffer::Text(rows) => rows.valid().zeros() as u32,
+            Buffer::Int8(rows) => rows.valid().zeros() as u32,
+            Buffer::Int16(rows) => rows.valid().zeros() as u32,
+            Buffer::Int32(rows) => rows.valid().zeros() as u32,
+            Buffer::Int64(rows) => rows.valid().zeros() as u32,
+            Buffer::UInt8(rows) => rows.valid().zeros() as u32,
+            Buffer::UInt16(rows) => rows.valid().zeros() as u32,
+            Buffer::UInt32(rows) => rows.valid().zeros() as u32,
+            Buffer::UInt64(rows) => rows.valid().zeros() as u32,
+        }
+    }
+
+    /// Which rows are not null.
+    pub fn valid(&self, alloc: Global) -> Result<Bits, AllocError>
+        ensures { IfOk result (λ b. b ≡ map is_some (rows_of self.now)) }
+    {
+        match self {
+            Buffer::Null(len) => Bits::filled(alloc, *len as usize, false),
+            Buffer::Boolean(rows) => rows.valid().try_clone(alloc),
+            Buffer::Text(rows) => rows.valid().try_clone(alloc),
+            Buffer::Int8(rows) => rows.valid().try_clone(alloc),
+            Buffer::Int16(rows) => rows.valid().try_clone(alloc),
+            Buffer::Int32(rows) => rows.valid().try_clone(alloc),
+            Buffer::Int64(rows) => rows.valid().try_clone(alloc),
+            Buffer::UInt8(rows) => rows.valid().try_clone(alloc),
+            Buffer::UInt16(rows) => rows.valid().try_clone(alloc),
+            Buffer::UInt32(rows) => rows.valid().try_clone(alloc),
+            Buffer::UInt64(rows) => rows.valid().try_clone(alloc),
+        }
+    }
+
+    /// The same rows.
+    pub fn try_clone(&self, alloc: Global) -> Result<Buffer, PlanError>
+        ensures { GivesOrMemory result self.now }
+    {
+        match self {
+            Buffer::Null(len) => Ok(Buffer::Null(*len)),
             Buffer::Boolean(rows) => Ok(Buffer::Boolean(rows.try_clone(alloc)?)),
+            Buffer::Text(rows) => Ok(Buffer::Text(rows.try_clone(alloc)?)),
             Buffer::Int8(rows) => Ok(Buffer::Int8(rows.try_clone(alloc)?)),
             Buffer::Int16(rows) => Ok(Buffer::Int16(rows.try_clone(alloc)?)),
             Buffer::Int32(rows) => Ok(Buffer::Int32(rows.try_clone(alloc)?)),
@@ -80,42 +191,67 @@ impl Buffer {
     }
 
     /// The one row `len` times.
-    pub fn repeated(&self, alloc: Global, len: u32) -> Result<Buffer, AllocError>
+    pub fn repeated(&self, alloc: Global, len: u32) -> Result<Buffer, PlanError>
         requires { length (rows_of self.now) ≡ 1 }
         ensures kind { IfOk result (λ b. kind_of b ≡ kind_of self.now) }
         ensures rows { IfOk result (λ b. rows_of b ≡ replicate len (get_or (rows_of self.now) 0 None)) }
+        ensures err { IfErr result (λ e. e ≡ PlanError.OutOfMemory) }
     {
-        let len = len as usize;
+        let count = len as usize;
         match self {
-            Buffer::Boolean(rows) => Ok(Buffer::Boolean(rows.repeated(alloc, len)?)),
-            Buffer::Int8(rows) => Ok(Buffer::Int8(rows.repeated(alloc, len)?)),
-            Buffer::Int16(rows) => Ok(Buffer::Int16(rows.repeated(alloc, len)?)),
-            Buffer::Int32(rows) => Ok(Buffer::Int32(rows.repeated(alloc, len)?)),
-            Buffer::Int64(rows) => Ok(Buffer::Int64(rows.repeated(alloc, len)?)),
-            Buffer::UInt8(rows) => Ok(Buffer::UInt8(rows.repeated(alloc, len)?)),
-            Buffer::UInt16(rows) => Ok(Buffer::UInt16(rows.repeated(alloc, len)?)),
-            Buffer::UInt32(rows) => Ok(Buffer::UInt32(rows.repeated(alloc, len)?)),
-            Buffer::UInt64(rows) => Ok(Buffer::UInt64(rows.repeated(alloc, len)?)),
+            Buffer::Null(_) => Ok(Buffer::Null(len)),
+            Buffer::Boolean(rows) => Ok(Buffer::Boolean(rows.repeated(alloc, count)?)),
+            Buffer::Text(rows) => Ok(Buffer::Text(rows.repeated(alloc, count)?)),
+            Buffer::Int8(rows) => Ok(Buffer::Int8(rows.repeated(alloc, count)?)),
+            Buffer::Int16(rows) => Ok(Buffer::Int16(rows.repeated(alloc, count)?)),
+            Buffer::Int32(rows) => Ok(Buffer::Int32(rows.repeated(alloc, count)?)),
+            Buffer::Int64(rows) => Ok(Buffer::Int64(rows.repeated(alloc, count)?)),
+            Buffer::UInt8(rows) => Ok(Buffer::UInt8(rows.repeated(alloc, count)?)),
+            Buffer::UInt16(rows) => Ok(Buffer::UInt16(rows.repeated(alloc, count)?)),
+            Buffer::UInt32(rows) => Ok(Buffer::UInt32(rows.repeated(alloc, count)?)),
+            Buffer::UInt64(rows) => Ok(Buffer::UInt64(rows.repeated(alloc, count)?)),
         }
     }
 
-    /// Row by row the sums, taken into the type.
-    pub fn plus(&self, alloc: Global, other: &Buffer) -> Result<Buffer, PlanError>
-        requires integer { IsInteger (kind_of self.now) }
+    /// Row by row a logical operator, And, Or or Xor, on truth values, or bit by bit on integers.
+    pub fn logic(&self, alloc: Global, op: Operator, other: &Buffer) -> Result<Buffer, PlanError>
+        requires logic { IsLogic op }
+        requires operand { IsBoolean (kind_of self.now) ⊎ IsInteger (kind_of self.now) }
         requires same { kind_of self.now ≡ kind_of other.now }
         ensures kind { IfOk result (λ b. kind_of b ≡ kind_of self.now) }
-        ensures rows { IfOk result (λ b. Some (rows_of b) ≡ row_by_row (lift (λ x y. into (kind_of self.now) (x +ℤ y))) (rows_of self.now) (rows_of other.now)) }
-        ensures err { IfErr result (λ e. (e ≡ PlanError.OutOfMemory) ⊎ ((e ≡ PlanError.ShapeMismatch) × (row_by_row (lift (λ x y. into (kind_of self.now) (x +ℤ y))) (rows_of self.now) (rows_of other.now) ≡ None))) }
+        ensures rows { IfOk result (λ b. Some (rows_of b) ≡ row_by_row (logic_row op (kind_of self.now)) (rows_of self.now) (rows_of other.now)) }
+        ensures err { IfErr result (λ e. (e ≡ PlanError.OutOfMemory) ⊎ ((e ≡ PlanError.ShapeMismatch) × (row_by_row (logic_row op (kind_of self.now)) (rows_of self.now) (rows_of other.now) ≡ None))) }
     {
         match (self, other) {
-            (Buffer::Int8(a), Buffer::Int8(b)) => Ok(Buffer::Int8(a.plus(alloc, b)?)),
-            (Buffer::Int16(a), Buffer::Int16(b)) => Ok(Buffer::Int16(a.plus(alloc, b)?)),
-            (Buffer::Int32(a), Buffer::Int32(b)) => Ok(Buffer::Int32(a.plus(alloc, b)?)),
-            (Buffer::Int64(a), Buffer::Int64(b)) => Ok(Buffer::Int64(a.plus(alloc, b)?)),
-            (Buffer::UInt8(a), Buffer::UInt8(b)) => Ok(Buffer::UInt8(a.plus(alloc, b)?)),
-            (Buffer::UInt16(a), Buffer::UInt16(b)) => Ok(Buffer::UInt16(a.plus(alloc, b)?)),
-            (Buffer::UInt32(a), Buffer::UInt32(b)) => Ok(Buffer::UInt32(a.plus(alloc, b)?)),
-            (Buffer::UInt64(a), Buffer::UInt64(b)) => Ok(Buffer::UInt64(a.plus(alloc, b)?)),
+            (Buffer::Boolean(a), Buffer::Boolean(b)) => Ok(Buffer::Boolean(a.logic(alloc, op, b)?)),
+            (Buffer::Int8(a), Buffer::Int8(b)) => Ok(Buffer::Int8(a.logic(alloc, op, b)?)),
+            (Buffer::Int16(a), Buffer::Int16(b)) => Ok(Buffer::Int16(a.logic(alloc, op, b)?)),
+            (Buffer::Int32(a), Buffer::Int32(b)) => Ok(Buffer::Int32(a.logic(alloc, op, b)?)),
+            (Buffer::Int64(a), Buffer::Int64(b)) => Ok(Buffer::Int64(a.logic(alloc, op, b)?)),
+            (Buffer::UInt8(a), Buffer::UInt8(b)) => Ok(Buffer::UInt8(a.logic(alloc, op, b)?)),
+            (Buffer::UInt16(a), Buffer::UInt16(b)) => Ok(Buffer::UInt16(a.logic(alloc, op, b)?)),
+            (Buffer::UInt32(a), Buffer::UInt32(b)) => Ok(Buffer::UInt32(a.logic(alloc, op, b)?)),
+            (Buffer::UInt64(a), Buffer::UInt64(b)) => Ok(Buffer::UInt64(a.logic(alloc, op, b)?)),
+            _ => unreachable!(),
+        }
+    }
+
+    /// Row by row the opposite truth value, or the integer with every bit turned.
+    pub fn inverse(&self, alloc: Global) -> Result<Buffer, AllocError>
+        requires { IsBoolean (kind_of self.now) ⊎ IsInteger (kind_of self.now) }
+        ensures kind { IfOk result (λ b. kind_of b ≡ kind_of self.now) }
+        ensures rows { IfOk result (λ b. rows_of b ≡ map (inverse_row (kind_of self.now)) (rows_of self.now)) }
+    {
+        match self {
+            Buffer::Boolean(rows) => Ok(Buffer::Boolean(rows.not(alloc)?)),
+            Buffer::Int8(rows) => Ok(Buffer::Int8(rows.complement(alloc)?)),
+            Buffer::Int16(rows) => Ok(Buffer::Int16(rows.complement(alloc)?)),
+            Buffer::Int32(rows) => Ok(Buffer::Int32(rows.complement(alloc)?)),
+            Buffer::Int64(rows) => Ok(Buffer::Int64(rows.complement(alloc)?)),
+            Buffer::UInt8(rows) => Ok(Buffer::UInt8(rows.complement(alloc)?)),
+            Buffer::UInt16(rows) => Ok(Buffer::UInt16(rows.complement(alloc)?)),
+            Buffer::UInt32(rows) => Ok(Buffer::UInt32(rows.complement(alloc)?)),
+            Buffer::UInt64(rows) => Ok(Buffer::UInt64(rows.complement(alloc)?)),
             _ => unreachable!(),
         }
     }

@@ -1,12 +1,17 @@
 //! A column: a name, a type, and rows that may be null.
-ghost use Rattle.std.specs.Prelude.{◌≡◌, ◌⊎◌, length, Some, None, IfOk, IfErr};
+ghost use Rattle.std.specs.Prelude.{◌≡◌, ◌⊎◌, ◌<◌, ◌≤◌, ◌+◌, ◌/◌, ◌^◌, ◌↔◌, ℕ, length, map, replicate, get_or, Some, None, IfOk, IfErr, IfSome, IsSome, IsTrue, is_some};
 ghost use Rattle.std.specs.Simd.Lanes.{Each1};
 ghost use Rattle.px_base.specs.Answer.{GivesOrMemory};
-ghost use Rattle.px_types.specs.Integers.{IsInteger};
-ghost use Rattle.px_types.specs.Rows.{IsRowOf, joined, stretch, plus_rows};
+ghost use Rattle.px_types.specs.Logic.{is_true};
+ghost use Rattle.px_types.specs.Rows.{bool_row, number_row, text_row, null_count, IsBoolean, IsRowOf};
+ghost use Rattle.px_types.specs.ValueTypes.{dtype_of, value_type_of};
+ghost use Rattle.px_types.specs.declared.value_type.ValueType.TheVariants as kind;
+ghost use Rattle.px_column.specs.ColumnOf.{HoldsIntegers};
+ghost use Rattle.px_column.specs.Values.{row_of, IsValueOf};
 
 use crate::buffer::Buffer;
-use px_types::{PlanError, SmallStr, ValueType};
+use px_rows::{Texts, Truths};
+use px_types::{AnyValue, DataType, PlanError, SmallStr, ValueType};
 use std::alloc::Global;
 use std::marker::Model;
 
@@ -14,8 +19,12 @@ use std::marker::Model;
 #[derive(Drop)]
 pub struct Column {
     name: SmallStr,
+    dtype: DataType,
     buffer: Buffer,
 }
+
+/// Another name of `Column`.
+pub type Series = Column;
 
 impl Model for Column {
     ghost use Rattle.px_types.specs.Rows.{Contents};
@@ -25,16 +34,97 @@ impl Model for Column {
     ghost use Rattle.px_column.specs.ColumnOf.{kind_of, rows_of};
 
     ghost view = { λ c. record { name = c.name; values = record { kind = kind_of c.buffer; rows = rows_of c.buffer } } };
+
+    ghost use Rattle.std.specs.Prelude.{◌≡◌};
+    ghost use Rattle.px_types.specs.ValueTypes.{dtype_of};
+
+    ghost invariant = { λ c. c.dtype ≡ dtype_of (kind_of c.buffer) };
 }
+
+/// 2^32, from which on a column would have too many rows.
+const TOO_LONG: usize = 4294967296;
 
 impl Column {
     ghost use Rattle.px_column.specs.ColumnOf.{kind_of, rows_of};
+    ghost use Rattle.px_rows.specs.BitsOf.{bit_of};
 
     /// The rows of the buffer under the name.
     pub fn new(name: SmallStr, buffer: Buffer) -> Column
         ensures { result ≡ record { name = name; values = record { kind = kind_of buffer; rows = rows_of buffer } } }
     {
-        Column { name, buffer }
+        let dtype = buffer.kind().dtype();
+        Column {
+            name,
+            dtype,
+            buffer,
+        }
+    }
+
+    /// A column of the type `Null`, of which every row is null.
+    pub fn new_null(alloc: Global, name: &str, len: u32) -> Result<Column, PlanError>
+        ensures { GivesOrMemory result (record { name = name.now; values = record { kind = kind.Null; rows = replicate len None } }) }
+    {
+        let name = SmallStr::new(alloc, name)?;
+        Ok(Column::new(name, Buffer::Null(len)))
+    }
+
+    /// A column of truth values. `TooLong` from 2^32 rows on.
+    pub fn new_bool(alloc: Global, name: &str, values: &[Option<bool>]) -> Result<Column, PlanError>
+        ensures column { IfOk result (λ c. c ≡ record { name = name.now; values = record { kind = kind.Boolean; rows = map bool_row values.now } }) }
+        ensures few { IfOk result (λ _. length values.now < 2 ^ 32) }
+        ensures err { IfErr result (λ e. (e ≡ PlanError.OutOfMemory) ⊎ ((e ≡ PlanError.TooLong) × (2 ^ 32 ≤ length values.now))) }
+    {
+        if values.len() >= TOO_LONG {
+            return Err(PlanError::TooLong);
+        }
+        let name = SmallStr::new(alloc, name)?;
+        let rows = Truths::from_options(alloc, values)?;
+        Ok(Column::new(name, Buffer::Boolean(rows)))
+    }
+
+    /// A column of integers of the type `dtype`. `TooLong` from 2^32 rows on, else `InvalidOperation`
+    /// where `dtype` is no integer type of 8 to 64 bits, or a value is outside it.
+    pub fn new_int(
+        alloc: Global,
+        name: &str,
+        dtype: DataType,
+        values: &[Option<i128>],
+    ) -> Result<Column, PlanError>
+        ensures name { IfOk result (λ c. c.name ≡ name.now) }
+        ensures kind { IfOk result (λ c. value_type_of dtype ≡ Some c.values.kind) }
+        ensures rows { IfOk result (λ c. c.values.rows ≡ map number_row values.now) }
+        ensures holds { IfOk result (λ _. (length values.now < 2 ^ 32) × HoldsIntegers (value_type_of dtype) values.now) }
+        ensures err { IfErr result (λ e. (e ≡ PlanError.OutOfMemory) ⊎ (((e ≡ PlanError.TooLong) × (2 ^ 32 ≤ length values.now)) ⊎ ((e ≡ PlanError.InvalidOperation) × (length values.now < 2 ^ 32) × ¬ (HoldsIntegers (value_type_of dtype) values.now)))) }
+    {
+        if values.len() >= TOO_LONG {
+            return Err(PlanError::TooLong);
+        }
+        let Some(kind) = dtype.value_type() else {
+            return Err(PlanError::InvalidOperation);
+        };
+        let name = SmallStr::new(alloc, name)?;
+        let Some(buffer) = Buffer::from_integers(alloc, kind, values)? else {
+            return Err(PlanError::InvalidOperation);
+        };
+        Ok(Column::new(name, buffer))
+    }
+
+    /// A column of texts. `TooLong` from 2^32 rows on.
+    pub fn new_text(
+        alloc: Global,
+        name: &str,
+        values: &[Option<SmallStr>],
+    ) -> Result<Column, PlanError>
+        ensures column { IfOk result (λ c. c ≡ record { name = name.now; values = record { kind = kind.String; rows = map text_row values.now } }) }
+        ensures few { IfOk result (λ _. length values.now < 2 ^ 32) }
+        ensures err { IfErr result (λ e. (e ≡ PlanError.OutOfMemory) ⊎ ((e ≡ PlanError.TooLong) × (2 ^ 32 ≤ length values.now))) }
+    {
+        if values.len() >= TOO_LONG {
+            return Err(PlanError::TooLong);
+        }
+        let name = SmallStr::new(alloc, name)?;
+        let rows = Texts::from_options(alloc, values)?;
+        Ok(Column::new(name, Buffer::Text(rows)))
     }
 
     pub fn name(&self) -> &SmallStr
@@ -50,12 +140,42 @@ impl Column {
         self.buffer.kind()
     }
 
+    /// The type of the rows, among all types.
+    pub fn dtype(&self) -> &DataType
+        ensures { result.now ≡ dtype_of self.now.values.kind }
+    {
+        &self.dtype
+    }
+
     /// The number of rows, which is below 2^32. Each row is null or a value of the type.
     pub fn len(&self) -> u32
         ensures rows { result ≡ length self.now.values.rows }
         ensures typed { Each1 (IsRowOf self.now.values.kind) self.now.values.rows }
     {
         self.buffer.len()
+    }
+
+    /// Whether there are no rows.
+    pub fn is_empty(&self) -> bool
+        ensures { IsTrue result ↔ (length self.now.values.rows ≡ 0) }
+    {
+        self.len() == 0
+    }
+
+    /// The number of rows that are null.
+    pub fn null_count(&self) -> u32
+        ensures { result ≡ null_count self.now.values.rows }
+    {
+        self.buffer.null_count()
+    }
+
+    /// Row `i`.
+    pub fn get(&self, i: u32) -> AnyValue<'_>
+        requires { i < length self.now.values.rows }
+        ensures row { row_of result ≡ get_or self.now.values.rows i None }
+        ensures kind { IsValueOf self.now.values.kind result }
+    {
+        self.buffer.get(i as usize)
     }
 
     /// The rows as they are kept.
@@ -66,14 +186,35 @@ impl Column {
         &self.buffer
     }
 
+    /// Of a Boolean column, words whose bit i tells whether row i is true. Each other bit is zero.
+    pub fn truth_words(&self) -> Option<&[u64]>
+        ensures boolean { IsSome result ↔ IsBoolean self.now.values.kind }
+        ensures whole { IfSome result (λ words. length words.now ≡ (length self.now.values.rows + 63) / 64) }
+        ensures bits { IfSome result (λ words. (i : ℕ) → bit_of words.now i ≡ is_true (get_or self.now.values.rows i None)) }
+    {
+        match &self.buffer {
+            Buffer::Boolean(rows) => Some(rows.truth().words()),
+            _ => None,
+        }
+    }
+
+    /// Of a Boolean column, words whose bit i tells whether row i is not null. Each other bit is zero.
+    pub fn valid_words(&self) -> Option<&[u64]>
+        ensures boolean { IsSome result ↔ IsBoolean self.now.values.kind }
+        ensures whole { IfSome result (λ words. length words.now ≡ (length self.now.values.rows + 63) / 64) }
+        ensures bits { IfSome result (λ words. (i : ℕ) → bit_of words.now i ≡ is_some (get_or self.now.values.rows i None)) }
+    {
+        match &self.buffer {
+            Buffer::Boolean(rows) => Some(rows.valid().words()),
+            _ => None,
+        }
+    }
+
     /// The same rows under the name.
     pub fn rename(self, name: SmallStr) -> Column
         ensures { result ≡ record self { name = name } }
     {
-        Column {
-            name,
-            buffer: self.buffer,
-        }
+        Column::new(name, self.buffer)
     }
 
     /// An equal column.
@@ -82,49 +223,6 @@ impl Column {
     {
         let name = self.name.try_clone(alloc)?;
         let buffer = self.buffer.try_clone(alloc)?;
-        Ok(Column { name, buffer })
+        Ok(Column::new(name, buffer))
     }
-}
-
-/// The length to which two lengths join: they are equal, or one of them is one.
-pub fn join_lengths(a: u32, b: u32) -> Option<u32>
-    ensures { result ≡ joined a b }
-{
-    if a == b {
-        Some(a)
-    } else if a == 1 {
-        Some(b)
-    } else if b == 1 {
-        Some(a)
-    } else {
-        None
-    }
-}
-
-/// The one row of a column `n` times; a column of `n` rows as it is.
-pub fn stretch(alloc: Global, c: &Column, n: u32) -> Result<Column, PlanError>
-    requires { (length c.now.values.rows ≡ 1) ⊎ (length c.now.values.rows ≡ n) }
-    ensures { GivesOrMemory result (record { name = c.now.name; values = record { kind = c.now.values.kind; rows = stretch n c.now.values.rows } }) }
-{
-    if c.len() == n {
-        return c.try_clone(alloc);
-    }
-    let name = c.name.try_clone(alloc)?;
-    let buffer = c.buffer.repeated(alloc, n)?;
-    Ok(Column { name, buffer })
-}
-
-/// Row by row the sums of two columns of one integer type, taken into the type, under the name of
-/// the first. A column of one row goes with each row of the other. `ShapeMismatch` where the lengths
-/// do not join.
-pub fn plus(alloc: Global, a: &Column, b: &Column) -> Result<Column, PlanError>
-    requires integer { IsInteger a.now.values.kind }
-    requires same { a.now.values.kind ≡ b.now.values.kind }
-    ensures name { IfOk result (λ c. c.name ≡ a.now.name) }
-    ensures rows { IfOk result (λ c. Some c.values ≡ plus_rows a.now.values b.now.values) }
-    ensures err { IfErr result (λ e. (e ≡ PlanError.OutOfMemory) ⊎ ((e ≡ PlanError.ShapeMismatch) × (plus_rows a.now.values b.now.values ≡ None))) }
-{
-    let buffer = a.buffer.plus(alloc, &b.buffer)?;
-    let name = a.name.try_clone(alloc)?;
-    Ok(Column { name, buffer })
 }

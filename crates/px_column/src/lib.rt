@@ -1,20 +1,22 @@
 //! Columns of values that may be null, and what is done with them row by row.
 #![tactic(auto)]
 
-mod bits;
 mod buffer;
-mod builder;
 mod column;
 mod frame;
-mod number;
-mod numbers;
-mod truths;
+mod kernels;
+mod laws;
+mod same;
 
-pub use bits::Bits;
 pub use buffer::Buffer;
-pub use builder::NumbersBuilder;
-pub use column::{Column, join_lengths, plus, stretch};
+pub use column::{Column, Series};
 pub use frame::{ColumnList, Frame};
-pub use number::Number;
-pub use numbers::Numbers;
-pub use truths::Truths;
+pub use kernels::{
+    is_not_null, is_null, join_lengths, kleene_and, kleene_or, kleene_xor, negate_bitwise, stretch,
+};
+pub use laws::{
+    joining_associates, joining_commutes, logic_associates, logic_commutes, logic_negates,
+};
+
+#[cfg(test)]
+mod tests;

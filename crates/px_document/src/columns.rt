@@ -12,7 +12,9 @@ ghost use Rattle.px_document.specs.Document as document;
 ghost use Rattle.px_document.specs.Report as report;
 
 use crate::{kind, look};
-use px_column::{Buffer, Column, ColumnList, Number, Numbers, NumbersBuilder};
+use px_column::{Buffer, Column, ColumnList};
+use px_integers::Number;
+use px_rows::{Numbers, NumbersBuilder};
 use px_types::{List, PlanError, SmallStr, ValueType};
 use serde_json::{Value, json};
 use std::alloc::Global;

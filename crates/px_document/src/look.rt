@@ -6,7 +6,7 @@ ghost use Rattle.px_types.specs.Rows.{number_row};
 ghost use Rattle.px_document.specs.Look as look;
 ghost use Rattle.px_document.specs.Document as document;
 
-use px_column::Number;
+use px_integers::Number;
 use serde_json::Value;
 
 /// The name and the value of an object's one member.

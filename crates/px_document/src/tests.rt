@@ -3,7 +3,8 @@
 use crate::{
     document_of, document_of_bytes, error_value, expr_of_value, line, report_value, value_of_expr,
 };
-use px_column::{Buffer, Column, NumbersBuilder};
+use px_column::{Buffer, Column};
+use px_rows::NumbersBuilder;
 use px_types::{PlanError, SmallStr};
 use serde_json::Value;
 use std::alloc::Global;

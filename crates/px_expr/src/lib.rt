@@ -6,6 +6,8 @@ mod clone;
 mod context;
 mod expr;
 mod literal;
+#[cfg(test)]
+mod tests;
 
 pub use build::binary_expr;
 pub use context::Context;

@@ -12,7 +12,8 @@ use Rattle.px_types.specs.declared.operator.Operator.{Operator}
 use Rattle.px_types.specs.declared.operator.Operator.TheVariants.{Plus}
 use Rattle.px_types.specs.declared.value_type.ValueType.{ValueType}
 use Rattle.px_types.specs.declared.value_type.ValueType.TheVariants as kind
-use Rattle.px_types.specs.Rows.{Row, TypedRows, Contents, lift, joined, stretch, row_by_row, plus_rows}
+use Rattle.px_types.specs.Arithmetic.{arith_rows}
+use Rattle.px_types.specs.Rows.{Row, TypedRows, Contents, lift, joined, stretch, row_by_row}
 use Rattle.px_types.specs.Integers.{into}
 use Rattle.px_types.specs.declared.dtype.DataType.{DataType}
 use Rattle.px_types.specs.ValueTypes.{dtype_of, value_type_of}
@@ -133,10 +134,10 @@ row_by_row-tall f xs ys height h k =
     (subst (λ (n : ℕ). (n ≡ 1) ⊎ (n ≡ height)) (sym long) j.tall)
 
 -- a sum of two columns of one type is one of that type
-plus_rows-typed :
-    (k : ValueType) (height : ℕ) (a b : TypedRows) → AreRowsOf k height a → AreRowsOf k height b → IsSomeAnd (plus_rows a b) (AreRowsOf k height)
-unfolding plus_rows
-plus_rows-typed k height a b ha hb =
+plus-typed :
+    (k : ValueType) (height : ℕ) (a b : TypedRows) → AreRowsOf k height a → AreRowsOf k height b → IsSomeAnd (arith_rows Plus a b) (AreRowsOf k height)
+unfolding arith_rows
+plus-typed k height a b ha hb =
     go (row_by_row (lift (λ x y. into a.kind (x +ℤ y))) a.rows b.rows) (row_by_row-tall (lift (λ x y. into a.kind (x +ℤ y))) a.rows b.rows height ha.tall hb.tall)
   where
     go : (o : Option (List Row)) → IsSomeAnd o (IsTall height) → IsSomeAnd (option_map (λ rows. record { kind = a.kind; rows = rows }) o) (AreRowsOf k height)
@@ -155,7 +156,7 @@ pub binary_rows-typed :
     IsSomeAnd (binary_rows op a b) (AreRowsOf l height)
 binary_rows-typed Plus kind.Int32 kind.Int32 l height a b e ha hb =
     let same : kind.Int32 ≡ l = cc in
-    subst (λ (z : ValueType). IsSomeAnd (plus_rows a b) (AreRowsOf z height)) same (plus_rows-typed kind.Int32 height a b ha hb)
+    subst (λ (z : ValueType). IsSomeAnd (arith_rows Plus a b) (AreRowsOf z height)) same (plus-typed kind.Int32 height a b ha hb)
 binary_rows-typed _ _ _ l height a b e ha hb = cc
 
 -- one input means rows of its type

@@ -2,7 +2,8 @@
 use Rattle.std.proofs.Common.{◌≡◌, ℕ, ◌<◌, ◌≤◌, List, Option, Some, None, refl, ◌∙◌, ap, subst, arith}
 use Rattle.std.specs.Option.{option_map}
 use Rattle.px_types.specs.declared.value_type.ValueType.{ValueType}
-use Rattle.px_types.specs.Rows.{TypedRows, Contents, plus_rows}
+use Rattle.px_types.specs.Arithmetic.{arith_rows}
+use Rattle.px_types.specs.Rows.{TypedRows, Contents}
 use Rattle.px_expr.specs.declared.context.Context.{Context}
 use Rattle.px_expr.specs.declared.context.Context.TheVariants.{Select, Filter}
 use Rattle.px_expr.specs.Tree.{Tree}
@@ -28,7 +29,7 @@ module _ (s : Schema) (c : Context) where
   row_keeps_kind t u (C10 x y) k h = HasKind-kind_of s u k (kind_of-HasKind s t k h)
 
   pub row_keeps_rows : (frame : List Contents) (t u : Tree) → IsRow s c t u → rows frame t ≡ rows frame u
-  unfolding plus_rows
+  unfolding arith_rows
   row_keeps_rows frame _ _ (C10 x y) = refl
 
   pub row_keeps_name : (t u : Tree) → IsRow s c t u → name t ≡ name u

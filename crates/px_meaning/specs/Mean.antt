@@ -5,7 +5,8 @@ use Rattle.px_types.specs.declared.operator.Operator.{Operator}
 use Rattle.px_types.specs.declared.operator.Operator.TheVariants.{Plus}
 use Rattle.px_types.specs.declared.value_type.ValueType.{ValueType}
 use Rattle.px_types.specs.declared.value_type.ValueType.TheVariants as kind
-use Rattle.px_types.specs.Rows.{Integer, TypedRows, Contents, plus_rows}
+use Rattle.px_types.specs.Arithmetic.{arith_rows}
+use Rattle.px_types.specs.Rows.{Integer, TypedRows, Contents}
 use Rattle.px_expr.specs.declared.context.Context.{Context}
 use Rattle.px_expr.specs.declared.context.Context.TheVariants.{Select, Filter}
 use Rattle.px_expr.specs.declared.literal.LiteralValue.{LiteralValue}
@@ -19,7 +20,7 @@ literal_rows (Int32 z) = record { kind = kind.Int32; rows = Some (Integer z) ∷
 
 -- row by row what the operator gives
 abbrev pub binary_rows : Operator → TypedRows → TypedRows → Option TypedRows
-binary_rows Plus a b = plus_rows a b
+binary_rows Plus a b = arith_rows Plus a b
 binary_rows _ a b = None
 
 -- both, or nothing where one is nothing

@@ -9,8 +9,10 @@ ghost use Rattle.px_meaning.specs.Check.{IsChecked, binary_kind};
 ghost use Rattle.px_meaning.specs.Mean.{literal_rows, binary_rows, mean};
 ghost use Rattle.px_simplify.specs.Means.{MeansOrMemory};
 
-use px_column::{Buffer, Column, Frame, NumbersBuilder, plus};
+use px_column::{Buffer, Column, Frame};
 use px_expr::{Expr, LiteralValue};
+use px_kernels::arith;
+use px_rows::NumbersBuilder;
 use px_types::{Boxed, Operator, PlanError, SmallStr};
 use std::alloc::Global;
 
@@ -33,7 +35,7 @@ fn apply(alloc: Global, op: Operator, left: &Column, right: &Column) -> Result<C
         (binary_rows op left.now.values right.now.values)) }
 {
     match op {
-        Operator::Plus => plus(alloc, left, right),
+        Operator::Plus => arith(alloc, op, left, right),
         _ => Err(PlanError::InvalidOperation),
     }
 }

@@ -1,4 +1,7 @@
+pub mod CastLemmas
 pub mod CommonTypes
 pub mod RepeatedNames
 pub mod SchemaLemmas
 pub mod SupertypeLemmas
+pub mod Quotients
+pub mod Wrapping

@@ -2,6 +2,13 @@ pub mod Operators
 pub mod Integers
 pub mod Residues
 pub mod Rows
+pub mod Bitwise
+pub mod Logic
+pub mod Comparisons
+pub mod Arithmetic
+pub mod Choices
+pub mod Casts
+pub mod Fused
 pub mod HashInputs
 pub mod AnyValues
 pub mod Classes

@@ -1,6 +1,7 @@
 -- Rows of columns: values that may be null, lengths that join, and what is done row by row.
-use Rattle.std.specs.Prelude.{ℕ, ◌==◌, ℤ, ◌+ℤ◌, Bool, true, false, cond, List, length, get_or, replicate, Option, Some, None, option_map}
-use Rattle.std.specs.Simd.Lanes.{zip2}
+use Rattle.std.specs.Prelude.{ℕ, ◌==◌, ℤ, ◌+ℤ◌, Bool, true, false, cond, List, length, get_or, replicate, Option, Some, None, option_map, is_none, IfSome}
+use Rattle.std.specs.List.{count_by}
+use Rattle.std.specs.Simd.Lanes.{zip2, Each1}
 use Rattle.px_types.specs.declared.value_type.ValueType.{ValueType}
 use Rattle.px_types.specs.declared.value_type.ValueType.TheVariants.{Boolean, String}
 use Rattle.px_types.specs.Integers.{into, InRange}
@@ -52,22 +53,34 @@ abbrev pub truth_entry : Bool → Bool → Row
 truth_entry t true = Some (Truth t)
 truth_entry t false = None
 
+-- the text where the row is valid
+abbrev pub text_entry : Bool → List ℕ → Row
+text_entry true bytes = Some (Text bytes)
+text_entry false bytes = None
+
+-- the rows of optional truth values and of optional texts
+abbrev pub bool_row : Option Bool → Row
+bool_row (Some t) = Some (Truth t)
+bool_row None = None
+
+abbrev pub text_row : Option (List ℕ) → Row
+text_row (Some bytes) = Some (Text bytes)
+text_row None = None
+
 -- the number where the row is valid
 abbrev pub entry : Bool → ℤ → Row
 entry true z = Some (Integer z)
 entry false z = None
 
+-- f of a row of a number, null kept
+abbrev pub on_number : (ℤ → ℤ) → Row → Row
+on_number f (Some (Integer x)) = Some (Integer (f x))
+on_number f _ = None
+
 -- f of two rows of numbers, null where a row is null
 abbrev pub lift : (ℤ → ℤ → ℤ) → Row → Row → Row
 lift f (Some (Integer x)) (Some (Integer y)) = Some (Integer (f x y))
 lift f _ _ = None
-
--- false and anything is false, true and true is true, and else a null gives null
-abbrev pub and_row : Row → Row → Row
-and_row (Some (Truth false)) y = Some (Truth false)
-and_row (Some (Truth true)) y = y
-and_row None (Some (Truth false)) = Some (Truth false)
-and_row _ _ = None
 
 -- the length to which two lengths join: they are equal, or one of them is one
 abbrev pub joined : ℕ → ℕ → Option ℕ
@@ -81,6 +94,14 @@ stretch n rows = cond (length rows == 1) (replicate n (get_or rows 0 None)) rows
 abbrev pub row_by_row : (Row → Row → Row) → List Row → List Row → Option (List Row)
 row_by_row f xs ys = option_map (λ n. zip2 f (stretch n xs) (stretch n ys)) (joined (length xs) (length ys))
 
--- the sums of two columns of one integer type, taken into the type
-unfoldable pub plus_rows : TypedRows → TypedRows → Option TypedRows
-plus_rows a b = option_map (λ rows. record { kind = a.kind; rows = rows }) (row_by_row (lift (λ x y. into a.kind (x +ℤ y))) a.rows b.rows)
+-- f row by row of two columns, with rows of a type
+abbrev pub joined_rows : ValueType → (Row → Row → Row) → List Row → List Row → Option TypedRows
+joined_rows kind f xs ys = option_map (λ rows. record { kind = kind; rows = rows }) (row_by_row f xs ys)
+
+-- the number of rows that are null
+abbrev pub null_count : List Row → ℕ
+null_count rows = count_by is_none rows
+
+-- the numbers are all of the type
+abbrev pub AllInRange : ValueType → List (Option ℤ) → Type 0
+AllInRange kind values = Each1 (λ value. IfSome value (InRange kind)) values

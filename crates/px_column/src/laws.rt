@@ -1,0 +1,32 @@
+//! Laws of joining lengths and of three-valued logic, as functions that do nothing.
+ghost use Rattle.px_column.specs.Laws.{JoiningCommutes, JoiningAssociates, AndCommutes, AndAssociates, OrCommutes, OrAssociates, NotOfAnd, NotOfOr, NotOfNot, XorCommutes};
+
+/// Lengths join in either order.
+pub fn joining_commutes()
+    ensures { JoiningCommutes }
+{}
+
+/// Three lengths join to the same length from the left and from the right.
+pub fn joining_associates()
+    ensures { JoiningAssociates }
+{}
+
+/// `and`, `or` and `xor` of three-valued logic do not depend on the order of their operands.
+pub fn logic_commutes()
+    ensures and { AndCommutes }
+    ensures or { OrCommutes }
+    ensures xor { XorCommutes }
+{}
+
+/// `and` and `or` of three-valued logic do not depend on how three operands are grouped.
+pub fn logic_associates()
+    ensures and { AndAssociates }
+    ensures or { OrAssociates }
+{}
+
+/// De Morgan's laws, and double negation, for true, false and null.
+pub fn logic_negates()
+    ensures not_of_and { NotOfAnd }
+    ensures not_of_or { NotOfOr }
+    ensures not_of_not { NotOfNot }
+{}

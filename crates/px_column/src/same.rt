@@ -1,0 +1,158 @@
+//! Equality and hashing of columns. Equality is exact: name, type and rows are equal. The hash reads
+//! the type, the length and the number of nulls.
+ghost use Rattle.std.specs.Prelude.{◌≡◌, IsTrue, ◌↔◌, option_map};
+ghost use Rattle.std.specs.Option.{option_copied};
+ghost use Rattle.px_types.specs.Rows.{bool_row, number_row, text_row};
+ghost use Rattle.px_column.specs.ColumnOf.{kind_of, rows_of};
+
+use crate::buffer::Buffer;
+use crate::column::Column;
+use px_integers::Number;
+use px_rows::{Numbers, Texts, Truths};
+use std::hash::{Hash, Hasher};
+
+fn same_number<T: Number>(a: Option<T>, b: Option<T>) -> bool
+    ensures { IsTrue result ↔ (number_row (option_map T.number a) ≡ number_row (option_map T.number b)) }
+{
+    match (a, b) {
+        (Some(a), Some(b)) => a.is_same(b),
+        (None, None) => true,
+        _ => false,
+    }
+}
+
+fn same_truth(a: Option<bool>, b: Option<bool>) -> bool
+    ensures { IsTrue result ↔ (bool_row a ≡ bool_row b) }
+{
+    match (a, b) {
+        (Some(a), Some(b)) => a == b,
+        (None, None) => true,
+        _ => false,
+    }
+}
+
+fn same_text(a: Option<&str>, b: Option<&str>) -> bool
+    ensures { IsTrue result ↔ (text_row (option_copied a.entry) ≡ text_row (option_copied b.entry)) }
+{
+    match (a, b) {
+        (Some(a), Some(b)) => a == b,
+        (None, None) => true,
+        _ => false,
+    }
+}
+
+fn same_numbers<T: Number>(a: &Numbers<T>, b: &Numbers<T>) -> bool
+    ensures { IsTrue result ↔ (a.now ≡ b.now) }
+{
+    let len = a.len();
+    if len != b.len() {
+        return false;
+    }
+    for i in 0..len {
+        if !same_number(a.get(i), b.get(i)) {
+            return false;
+        }
+    }
+    true
+}
+
+fn same_truths(a: &Truths, b: &Truths) -> bool
+    ensures { IsTrue result ↔ (a.now ≡ b.now) }
+{
+    let len = a.len();
+    if len != b.len() {
+        return false;
+    }
+    for i in 0..len {
+        if !same_truth(a.get(i), b.get(i)) {
+            return false;
+        }
+    }
+    true
+}
+
+fn same_texts(a: &Texts, b: &Texts) -> bool
+    ensures { IsTrue result ↔ (a.now ≡ b.now) }
+{
+    let len = a.len();
+    if len != b.len() {
+        return false;
+    }
+    for i in 0..len {
+        if !same_text(a.get(i), b.get(i)) {
+            return false;
+        }
+    }
+    true
+}
+
+/// Whether the rows of two buffers of one type are equal.
+fn same_rows(a: &Buffer, b: &Buffer) -> bool
+    requires { kind_of a.now ≡ kind_of b.now }
+    ensures { IsTrue result ↔ (rows_of a.now ≡ rows_of b.now) }
+{
+    match (a, b) {
+        (Buffer::Null(_), Buffer::Null(_)) => a.len() == b.len(),
+        (Buffer::Boolean(a), Buffer::Boolean(b)) => same_truths(a, b),
+        (Buffer::Text(a), Buffer::Text(b)) => same_texts(a, b),
+        (Buffer::Int8(a), Buffer::Int8(b)) => same_numbers(a, b),
+        (Buffer::Int16(a), Buffer::Int16(b)) => same_numbers(a, b),
+        (Buffer::Int32(a), Buffer::Int32(b)) => same_numbers(a, b),
+        (Buffer::Int64(a), Buffer::Int64(b)) => same_numbers(a, b),
+        (Buffer::UInt8(a), Buffer::UInt8(b)) => same_numbers(a, b),
+        (Buffer::UInt16(a), Buffer::UInt16(b)) => same_numbers(a, b),
+        (Buffer::UInt32(a), Buffer::UInt32(b)) => same_numbers(a, b),
+        (Buffer::UInt64(a), Buffer::UInt64(b)) => same_numbers(a, b),
+        _ => unreachable!(),
+    }
+}
+
+fn same_column(a: &Column, b: &Column) -> bool
+    ensures { IsTrue result ↔ (a.now ≡ b.now) }
+{
+    if a.kind() != b.kind() {
+        return false;
+    }
+    *a.name() == *b.name() && same_rows(a.buffer(), b.buffer())
+}
+
+impl PartialEq for Column {
+    ghost use Rattle.px_base.specs.Exact.{same, same-partial};
+    ghost use Rattle.px_column.specs.contracts.column.Column.{the_row};
+    ghost use Rattle.std.specs.Prelude.{◌≡◌, IsTrue, ◌↔◌};
+
+    ghost eq = { same the_row.coded };
+
+    ghost laws = { same-partial the_row.coded };
+
+    fn eq(&self, other: &Column) -> bool
+        ensures value { result ≡ same the_row.coded self.now other.now }
+        ensures exact { IsTrue result ↔ (self.now ≡ other.now) }
+    {
+        same_column(self, other)
+    }
+}
+
+impl Eq for Column {
+    ghost use Rattle.px_base.specs.Exact.{same-equivalence};
+    ghost use Rattle.px_column.specs.contracts.column.Column.{the_row};
+
+    ghost laws = { same-equivalence the_row.coded };
+}
+
+impl Hash for Column {
+    ghost use Rattle.px_base.specs.Exact.{same-decides};
+    ghost use Rattle.px_column.specs.contracts.column.Column.{the_row};
+    ghost use Rattle.px_column.specs.HashInput.{column_input};
+    ghost use Rattle.std.specs.Hash.{same_Alike};
+
+    ghost hash_input = { column_input };
+
+    ghost respects_eq = { (same_Alike column_input (same-decides the_row.coded)).fed };
+
+    fn hash<H: Hasher>(&self, state: &mut H) {
+        self.dtype().hash(state);
+        self.len().hash(state);
+        self.null_count().hash(state);
+    }
+}

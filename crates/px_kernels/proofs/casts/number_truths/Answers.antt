@@ -1,0 +1,25 @@
+use Rattle.std.proofs.Common.{◌∙◌, ap, sym, map, length, is_some, not, refl}
+use Rattle.std.specs.Simd.Lanes.{zip2}
+use Rattle.std.proofs.lemmas.List.{length-map}
+use Rattle.std.proofs.lemmas.Result.{IfOk-weaker}
+use Rattle.px_types.specs.Arithmetic.{is_zero}
+use Rattle.px_types.specs.Casts.{as_truth}
+use Rattle.px_types.specs.Rows.{entry, truth_entry}
+use Rattle.px_kernels.specs.Casting.{CastsAll}
+use Rattle.px_kernels.proofs.CastRows.{numbers_cast, casts_at}
+use Rattle.px_kernels.proofs.casts.number_truths.Goals as goal
+
+pub from_flags-requires : goal.from_flags-requires
+from_flags-requires g c =
+    let zs = map g.T.Number.number c.values.result.now in
+    rw (c.as_slice.ensures.value, c.in_ok-flags.ensures, c.in_ok-valid.ensures, c.valid.ensures)
+    (length-map zs (λ z. not (is_zero z)) ∙ length-map c.values.result.now g.T.Number.number ∙ c.values.ensures.long ∙ sym (length-map c.args.a.now is_some))
+
+pub returns : goal.returns
+returns g c =
+    let zs = map g.T.Number.number c.values.result.now in
+    let us = map is_some c.args.a.now in
+    IfOk-weaker c.from_flags.result _ _
+    (λ r e. casts_at as_truth (zip2 entry us zs) c.args.a.now (zip2 truth_entry (map (λ z. not (is_zero z)) zs) us) r c.values.ensures.shown
+    (e ∙ rw (c.as_slice.ensures.value, c.in_ok-flags.ensures, c.in_ok-valid.ensures, c.valid.ensures) refl) (numbers_cast us zs))
+    c.from_flags.ensures

@@ -1,0 +1,9 @@
+use Rattle.std.proofs.Common.{◌∙◌}
+use Rattle.std.proofs.lemmas.Result.{IfOk-weaker}
+use Rattle.px_types.specs.Comparisons.{equal}
+use Rattle.px_column.specs.ColumnOf.{rows_of}
+use Rattle.px_kernels.proofs.TestRows.{not_tests}
+use Rattle.px_kernels.proofs.comparison.differ_rows.Goals as goal
+
+pub returns : goal.returns
+returns c = IfOk-weaker c.not.result _ _ (λ r e. e ∙ rw c.in_ok-same.ensures (not_tests equal (rows_of c.args.a.now) (rows_of c.args.b.now))) c.not.ensures

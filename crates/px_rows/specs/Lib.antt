@@ -1,0 +1,3 @@
+pub mod BitsOf
+pub mod NumbersOf
+pub mod TextsOf
