@@ -1,12 +1,11 @@
 -- Casts of rows that keep each value, and the numbers that a type holds.
-use Rattle.std.proofs.Common.{◌≡◌, ◌∙◌, ◌^◌, Bool, true, false, cond, not, ◌&&◌, ◌||◌, ℤ, ℕ, pos, negsuc, ◌≤ℤ◌, ◌<ℤ◌, List, [], ◌∷◌, map, ap, sym, refl, Some, None, is_none, inr, arith}
-use Rattle.std.specs.Prelude.{int_le, int_lt, FitsSigned, ◌-◌}
+use Rattle.std.proofs.Common.{◌≡◌, ◌∙◌, ◌^◌, Bool, true, false, cond, ◌||◌, ℤ, ℕ, pos, negsuc, ◌≤ℤ◌, ◌<ℤ◌, List, [], ◌∷◌, map, ap, sym, refl, Some, None, is_none, inr, arith}
 use Rattle.std.proofs.Math.Nat.{mod-eq_of_lt}
 use Rattle.std.specs.Int.{w8, w16, w32, w64, int_rem_euclid}
 use Rattle.std.specs.Bool.{Decides}
 use Rattle.std.specs.Simd.Lanes.{Each1}
 use Rattle.std.proofs.lemmas.Int.{ints, int_wrap_fits}
-use Rattle.px_types.specs.Casts.{in_type, as_integer, as_truth, as_text, cast_value, cast_row, is_lost, any_lost, cast_list, IsScalar, HasCast}
+use Rattle.px_types.specs.Casts.{in_type, as_integer, cast_value, cast_row, is_lost, any_lost, cast_list, IsScalar, HasCast}
 use Rattle.px_types.specs.Integers.{into, InRange, IsInteger}
 use Rattle.px_types.specs.ValueTypes.{holds, dtype_of, value_type_of}
 use Rattle.px_types.specs.Rows.{Datum, Truth, Text, Integer, Row, IsRowOf, IsBoolean, IsText}

@@ -5,3 +5,4 @@ pub mod SchemaLemmas
 pub mod SupertypeLemmas
 pub mod Quotients
 pub mod Wrapping
+pub mod ColumnLemmas

@@ -1,6 +1,6 @@
 -- Bit operations on the numbers of the eight integer types, in two's complement.
-use Rattle.std.specs.Prelude.{◌≡◌, ℕ, ◌-◌, ◌<◌, ◌^◌, ℤ, pos, unsigned_abs, FitsSigned, bit_and, bit_or, bit_xor}
-use Rattle.std.specs.Int.{cast_signed, cast_unsigned, int_bit_not, bit_not, Width, w8, w16, w32, w64}
+use Rattle.std.specs.Prelude.{ℕ, ℤ, pos, unsigned_abs}
+use Rattle.std.specs.Int.{cast_signed, cast_unsigned, int_bit_not, bit_not, w8, w16, w32, w64}
 use Rattle.px_types.specs.declared.value_type.ValueType.{ValueType}
 use Rattle.px_types.specs.declared.value_type.ValueType.TheVariants.{UInt8, UInt16, UInt32, UInt64, Int8, Int16, Int32, Int64}
 

@@ -1,5 +1,5 @@
 -- Casts of rows to another type.
-use Rattle.std.specs.Prelude.{◌≡◌, Bool, true, false, not, cond, ◌||◌, ◌⊎◌, ℤ, pos, List, [], ◌∷◌, map, Option, Some, None, is_none, option_map, option_and_then}
+use Rattle.std.specs.Prelude.{◌≡◌, Bool, false, not, cond, ◌||◌, ◌⊎◌, ℤ, pos, List, [], ◌∷◌, map, Option, Some, None, is_none, option_map, option_and_then}
 use Rattle.px_types.specs.Arithmetic.{is_zero}
 use Rattle.px_types.specs.Integers.{into, IsInteger}
 use Rattle.px_types.specs.Rows.{Datum, Truth, Text, Integer, Row, TypedRows}

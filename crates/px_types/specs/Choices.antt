@@ -1,5 +1,5 @@
 -- Rows chosen by a mask.
-use Rattle.std.specs.Prelude.{ℕ, Bool, cond, List, [], ◌∷◌, length, Option, Some, None, option_and_then, option_map}
+use Rattle.std.specs.Prelude.{ℕ, Bool, cond, List, [], ◌∷◌, length, Option, option_and_then, option_map}
 use Rattle.px_types.specs.Logic.{is_true}
 use Rattle.px_types.specs.Rows.{Row, TypedRows, joined, stretch}
 

@@ -1,9 +1,10 @@
 -- Frames: columns with distinct names and one height.
 use Rattle.std.specs.Prelude.{◌≡◌, ◌==◌, ℕ, Bool, true, false, List, [], ◌∷◌, map, length, Option, Some, None, Result, Ok, Err, if◌then◌else◌}
-use Rattle.std.specs.List.{list_all}
+use Rattle.std.specs.List.{All, list_all}
 use Rattle.std.specs.Str.{bytes_eq}
 use Rattle.px_base.specs.declared.error.PlanError.{PlanError}
 use Rattle.px_base.specs.declared.error.PlanError.TheVariants.{Duplicate, ShapeMismatch}
+use Rattle.px_types.specs.Columns.{IsColumn}
 use Rattle.px_types.specs.Rows.{Contents}
 use Rattle.px_types.specs.Schemas.{first_repeated}
 
@@ -33,9 +34,10 @@ framed columns None true = Ok columns
 abbrev pub frame_of : List Contents → Result (List Contents) PlanError
 frame_of columns = framed columns (first_repeated (column_names columns)) (are_equal (heights columns))
 
--- the columns have distinct names and one height
-abbrev pub IsFrame : List Contents → Type 0
-IsFrame columns = frame_of columns ≡ Ok columns
+-- columns with distinct names and one height
+pub record IsFrame (frame : List Contents) : Type 0 where
+  pub framed : frame_of frame ≡ Ok frame
+  pub columns : All (λ (c : Contents). IsColumn c.values) frame
 
 -- the height of a frame: 0 without columns
 abbrev pub height_of : List Contents → ℕ

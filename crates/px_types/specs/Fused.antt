@@ -1,18 +1,14 @@
 -- A product and a sum or a difference in one step, on rows of integers.
 use Rattle.std.specs.Prelude.{ℤ, ◌+ℤ◌, ◌-ℤ◌, ◌*ℤ◌, List, [], ◌∷◌, length, Option, Some, None, option_map}
+use Rattle.px_types.specs.declared.function.FusedOperator.{FusedOperator}
+use Rattle.px_types.specs.declared.function.FusedOperator.TheVariants.{MultiplyAdd, SubMultiply, MultiplySub}
 use Rattle.px_types.specs.Choices.{joined_three}
 use Rattle.px_types.specs.Integers.{into}
 use Rattle.px_types.specs.Rows.{Integer, Row, TypedRows, stretch}
 use Rattle.px_types.specs.declared.value_type.ValueType.{ValueType}
 
--- the three fused forms: x + y*z, x - y*z and x*y - z
-pub data FusedForm : Type 0 where
-  MultiplyAdd : FusedForm
-  SubMultiply : FusedForm
-  MultiplySub : FusedForm
-
 -- a form on whole numbers
-abbrev pub fused : FusedForm → ℤ → ℤ → ℤ → ℤ
+abbrev pub fused : FusedOperator → ℤ → ℤ → ℤ → ℤ
 fused MultiplyAdd x y z = x +ℤ (y *ℤ z)
 fused SubMultiply x y z = x -ℤ (y *ℤ z)
 fused MultiplySub x y z = (x *ℤ y) -ℤ z
@@ -23,7 +19,7 @@ lift_three f (Some (Integer x)) (Some (Integer y)) (Some (Integer z)) = Some (In
 lift_three f _ _ _ = None
 
 -- a form on three rows of an integer type, taken into the type
-abbrev pub fused_row : FusedForm → ValueType → Row → Row → Row → Row
+abbrev pub fused_row : FusedOperator → ValueType → Row → Row → Row → Row
 fused_row form kind x y z = lift_three (λ a b c. into kind (fused form a b c)) x y z
 
 -- f row by row of three lists
@@ -37,6 +33,6 @@ three_row_by_row f xs ys zs =
     option_map (λ n. zip3 f (stretch n xs) (stretch n ys) (stretch n zs)) (joined_three (length xs) (length ys) (length zs))
 
 -- a form on three columns of one integer type
-unfoldable pub fused_rows : FusedForm → TypedRows → TypedRows → TypedRows → Option TypedRows
+unfoldable pub fused_rows : FusedOperator → TypedRows → TypedRows → TypedRows → Option TypedRows
 fused_rows form a b c =
     option_map (λ rows. record { kind = a.kind; rows = rows }) (three_row_by_row (fused_row form a.kind) a.rows b.rows c.rows)

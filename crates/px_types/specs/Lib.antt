@@ -2,6 +2,7 @@ pub mod Operators
 pub mod Integers
 pub mod Residues
 pub mod Rows
+pub mod Columns
 pub mod Bitwise
 pub mod Logic
 pub mod Comparisons

@@ -1,5 +1,5 @@
 -- Three-valued logic on rows of truth values, and bit by bit on rows of numbers.
-use Rattle.std.specs.Prelude.{ℕ, ℤ, Bool, true, false, not, cond, ◌&&◌, ◌||◌, Option, Some, None, is_some, map, bit_and, bit_or, bit_xor}
+use Rattle.std.specs.Prelude.{ℕ, Bool, true, false, not, cond, ◌&&◌, ◌||◌, Option, Some, None, is_some, map, bit_and, bit_or, bit_xor}
 use Rattle.px_types.specs.declared.operator.Operator.{Operator}
 use Rattle.px_types.specs.declared.operator.Operator.TheVariants.{And, Or, Xor, LogicalAnd, LogicalOr}
 use Rattle.px_types.specs.declared.value_type.ValueType.{ValueType}

@@ -1,10 +1,10 @@
 -- Rows of columns: values that may be null, lengths that join, and what is done row by row.
-use Rattle.std.specs.Prelude.{ℕ, ◌==◌, ℤ, ◌+ℤ◌, Bool, true, false, cond, List, length, get_or, replicate, Option, Some, None, option_map, is_none, IfSome}
+use Rattle.std.specs.Prelude.{ℕ, ◌==◌, ℤ, Bool, true, false, cond, List, length, get_or, replicate, Option, Some, None, option_map, is_none, IfSome}
 use Rattle.std.specs.List.{count_by}
 use Rattle.std.specs.Simd.Lanes.{zip2, Each1}
 use Rattle.px_types.specs.declared.value_type.ValueType.{ValueType}
 use Rattle.px_types.specs.declared.value_type.ValueType.TheVariants.{Boolean, String}
-use Rattle.px_types.specs.Integers.{into, InRange}
+use Rattle.px_types.specs.Integers.{InRange}
 
 -- a value that is not null: a truth value, the bytes of a text, or a whole number
 pub data Datum : Type 0 where

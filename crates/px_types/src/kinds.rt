@@ -36,3 +36,13 @@ pub enum CastOptions {
     NonStrict,
     Overflowing,
 }
+
+/// Which value a quantile takes between two rows.
+#[derive(Clone, Copy, Debug, PartialEq, Eq, Hash)]
+pub enum QuantileMethod {
+    Nearest,
+    Lower,
+    Higher,
+    Midpoint,
+    Linear,
+}

@@ -1,0 +1,90 @@
+//! The functions of expressions.
+ghost use Rattle.std.specs.Prelude.{◌≡◌, IsTrue, ◌↔◌};
+ghost use Rattle.px_base.specs.Answer.{GivesOrMemory};
+
+use px_base::PlanError;
+use std::alloc::Global;
+
+/// A function that answers truth values, or that takes them apart.
+#[derive(Clone, Copy, Debug, PartialEq, Eq, Hash)]
+pub enum BooleanFunction {
+    IsNull,
+    IsNotNull,
+    /// The opposite truth value, or every bit turned.
+    Not,
+}
+
+/// A product and a sum or a difference in one step: `x + y * z`, `x - y * z` and `x * y - z`.
+#[derive(Clone, Copy, Debug, PartialEq, Eq, Hash)]
+pub enum FusedOperator {
+    MultiplyAdd,
+    SubMultiply,
+    MultiplySub,
+}
+
+/// A function over the inputs of an expression.
+#[derive(Drop)]
+pub enum FunctionExpr {
+    Boolean(BooleanFunction),
+    Negate,
+    Fused(FusedOperator),
+}
+
+fn same_function(a: &FunctionExpr, b: &FunctionExpr) -> bool
+    ensures { IsTrue result ↔ (a.now ≡ b.now) }
+{
+    match (a, b) {
+        (FunctionExpr::Boolean(a), FunctionExpr::Boolean(b)) => *a == *b,
+        (FunctionExpr::Negate, FunctionExpr::Negate) => true,
+        (FunctionExpr::Fused(a), FunctionExpr::Fused(b)) => *a == *b,
+        _ => false,
+    }
+}
+
+impl PartialEq for FunctionExpr {
+    ghost use Rattle.px_base.specs.Exact.{same, same-partial};
+    ghost use Rattle.px_types.specs.contracts.function.FunctionExpr.{the_row};
+    ghost use Rattle.std.specs.Prelude.{◌≡◌, IsTrue, ◌↔◌};
+
+    ghost eq = { same the_row.coded };
+
+    ghost laws = { same-partial the_row.coded };
+
+    fn eq(&self, other: &FunctionExpr) -> bool
+        ensures value { result ≡ same the_row.coded self.now other.now }
+        ensures exact { IsTrue result ↔ (self.now ≡ other.now) }
+    {
+        same_function(self, other)
+    }
+}
+
+impl Eq for FunctionExpr {
+    ghost use Rattle.px_base.specs.Exact.{same-equivalence};
+    ghost use Rattle.px_types.specs.contracts.function.FunctionExpr.{the_row};
+
+    ghost laws = { same-equivalence the_row.coded };
+}
+
+impl FunctionExpr {
+    /// An equal function.
+    pub fn try_clone(&self, _alloc: Global) -> Result<FunctionExpr, PlanError>
+        ensures { GivesOrMemory result self.now }
+    {
+        match self {
+            FunctionExpr::Boolean(function) => Ok(FunctionExpr::Boolean(*function)),
+            FunctionExpr::Negate => Ok(FunctionExpr::Negate),
+            FunctionExpr::Fused(operator) => Ok(FunctionExpr::Fused(*operator)),
+        }
+    }
+}
+
+impl From<BooleanFunction> for FunctionExpr {
+    ghost use Rattle.std.specs.Prelude.{◌≡◌};
+    ghost use Rattle.px_types.specs.declared.function.FunctionExpr.TheVariants.{Boolean};
+
+    ghost from_gives = { λ function answer. answer ≡ Boolean function };
+
+    fn from(function: BooleanFunction) -> FunctionExpr {
+        FunctionExpr::Boolean(function)
+    }
+}
