@@ -1,12 +1,15 @@
 -- What a schema of columns says of their names.
-use Rattle.std.proofs.Common.{◌≡◌, ◌∙◌, ℕ, Bool, true, false, List, [], ◌∷◌, map, Option, Some, None, Result, Ok, Err, refl, sym, ap, inl, inr, ◌⊎◌}
+use Rattle.std.proofs.Common.{◌≡◌, ◌∙◌, ◌<◌, ◌^◌, length, ℕ, Bool, true, false, List, [], ◌∷◌, map, Option, Some, None, Result, Ok, Err, refl, sym, ap, inl, inr, ◌⊎◌}
 use Rattle.std.specs.Result.{IfOk, IfErr}
+use Rattle.std.specs.Simd.Lanes.{Each1}
 use Rattle.px_base.specs.Answer.{AnswersOrMemory}
 use Rattle.px_base.specs.declared.error.PlanError.{PlanError}
 use Rattle.px_base.specs.declared.error.PlanError.TheVariants.{OutOfMemory, Duplicate, ShapeMismatch}
 use Rattle.px_types.specs.declared.dtype.Field.{Field}
-use Rattle.px_types.specs.Rows.{Contents}
+use Rattle.px_types.specs.Rows.{Contents, TypedRows, IsRowOf}
 use Rattle.px_types.specs.Schemas.{names_of, first_repeated, unless_repeated, distinct}
+use Rattle.px_types.specs.Columns.{is_column, are_columns}
+use Rattle.px_types.proofs.ColumnLemmas.{are_columns-All, column-is_column}
 use Rattle.px_types.specs.Frames.{column_names, framed, are_equal, heights, frame_of, IsFrame}
 use Rattle.px_column.specs.FrameOf.{field_of}
 
@@ -44,7 +47,7 @@ schema_error cs e (inr h) = inr (schema_refused cs e h)
 pub uneven : (cs : List Contents) → first_repeated (column_names cs) ≡ None → are_equal (heights cs) ≡ false → frame_of cs ≡ Err ShapeMismatch
 uneven cs names even = ap (λ o. framed cs o (are_equal (heights cs))) names ∙ ap (framed cs None) even
 
-pub framed_even : (cs : List Contents) → first_repeated (column_names cs) ≡ None → are_equal (heights cs) ≡ true → IsFrame cs
+pub framed_even : (cs : List Contents) → first_repeated (column_names cs) ≡ None → are_equal (heights cs) ≡ true → frame_of cs ≡ Ok cs
 framed_even cs names even = ap (λ o. framed cs o (are_equal (heights cs))) names ∙ ap (framed cs None) even
 
 pub answered_ok : (r : Result (List Field) PlanError) (cs : List Contents) → AnswersOrMemory (λ (schema : List Field). schema) r (distinct (map field_of cs))
@@ -56,3 +59,9 @@ pub answered_err : (r : Result (List Field) PlanError) (cs : List Contents) → 
     → IfErr r (λ e. (e ≡ OutOfMemory) ⊎ (frame_of cs ≡ Err e))
 answered_err (Ok schema) cs e = tt
 answered_err (Err e) cs h = schema_error cs e h
+
+pub is_frame : (cs : List Contents) → frame_of cs ≡ Ok cs → are_columns cs ≡ true → IsFrame cs
+is_frame cs framed columns = record { framed = framed; columns = are_columns-All cs columns }
+
+pub passes : (v : TypedRows) → length v.rows < 2 ^ 32 → Each1 (IsRowOf v.kind) v.rows → is_column v ≡ true
+passes v few typed = column-is_column v (record { few = few; typed = typed })

@@ -1,8 +1,10 @@
 //! A frame: columns with distinct names and one height.
-ghost use Rattle.std.specs.Prelude.{◌≡◌, ◌⊎◌, map, None, Err, IfOk, IfErr};
+ghost use Rattle.std.specs.Prelude.{◌≡◌, ◌⊎◌, length, map, true, None, Err, IfOk, IfErr};
+ghost use Rattle.std.specs.Bool.{OnTrue};
 ghost use Rattle.std.specs.Option.{option_copied};
 ghost use Rattle.px_base.specs.Answer.{GivesOrMemory, AnswersOrMemory};
 ghost use Rattle.px_types.specs.Schemas.{first_repeated};
+ghost use Rattle.px_types.specs.Columns.{is_column, are_columns};
 ghost use Rattle.px_types.specs.Frames.{IsFrame, frame_of, column_named, column_names, heights, are_equal, height_of};
 ghost use Rattle.px_column.specs.FrameOf.{field_of};
 
@@ -22,16 +24,17 @@ pub struct Frame {
 }
 
 impl Model for Frame {
-    ghost use Rattle.std.specs.Prelude.{◌≡◌, List, map};
+    ghost use Rattle.std.specs.Prelude.{◌≡◌, List, map, true, Ok};
+    ghost use Rattle.px_types.specs.Columns.{are_columns};
     ghost use Rattle.px_types.specs.Rows.{Contents};
-    ghost use Rattle.px_types.specs.Frames.{IsFrame};
+    ghost use Rattle.px_types.specs.Frames.{frame_of};
     ghost use Rattle.px_column.specs.FrameOf.{field_of};
 
     ghost Value = { List Contents };
 
     ghost view = { λ f. f.columns.entries };
 
-    ghost invariant = { λ f. IsFrame f.columns.entries × (f.schema ≡ map field_of f.columns.entries) };
+    ghost invariant = { λ f. (frame_of f.columns.entries ≡ Ok f.columns.entries) × (are_columns f.columns.entries ≡ true) × (f.schema ≡ map field_of f.columns.entries) };
 }
 
 impl Frame {
@@ -48,6 +51,7 @@ impl Frame {
     }
 
     /// The columns, in order.
+    #[tactic(auto, using(crate::proofs::Framed::is_frame))]
     pub fn columns(&self) -> &[Column]
         ensures columns { result.now ≡ self.now }
         ensures frame { IsFrame self.now }
@@ -56,8 +60,10 @@ impl Frame {
     }
 
     /// The names and the types of the columns, in order.
+    #[tactic(auto, using(crate::proofs::Framed::is_frame))]
     pub fn schema(&self) -> &Schema
-        ensures { result.now ≡ map field_of self.now }
+        ensures fields { result.now ≡ map field_of self.now }
+        ensures frame { IsFrame self.now }
     {
         &self.schema
     }
@@ -110,15 +116,26 @@ fn fields_of(alloc: Global, columns: &[Column]) -> Result<FieldList, PlanError>
     Ok(fields)
 }
 
+// The number of rows of a column, which is one by its own invariant.
+#[tactic(auto, using(crate::proofs::Framed::passes))]
+fn height_of(column: &Column) -> u32
+    ensures height { result ≡ length column.now.values.rows }
+    ensures column { is_column column.now.values ≡ true }
+{
+    column.len()
+}
+
+// Whether each column has the height of the first one.
 fn have_one_height(columns: &[Column]) -> bool
-    ensures { result ≡ are_equal (heights columns.now) }
+    ensures height { result ≡ are_equal (heights columns.now) }
+    ensures columns { OnTrue result (are_columns columns.now ≡ true) }
 {
     let Some((first, others)) = columns.split_first() else {
         return true;
     };
-    let height = first.len();
+    let height = height_of(first);
     for column in others {
-        if column.len() != height {
+        if height_of(column) != height {
             return false;
         }
     }

@@ -15,8 +15,12 @@ pub use kernels::{
     is_not_null, is_null, join_lengths, kleene_and, kleene_or, kleene_xor, negate_bitwise, stretch,
 };
 pub use laws::{
-    joining_associates, joining_commutes, logic_associates, logic_commutes, logic_negates,
+    difference_with_product_fuses, joining_associates, joining_commutes, logic_associates,
+    logic_commutes, logic_negates, product_with_difference_fuses, product_with_sum_fuses,
+    sum_with_product_fuses,
 };
 
+#[cfg(test)]
+mod test_columns;
 #[cfg(test)]
 mod tests;

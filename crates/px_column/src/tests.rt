@@ -1,253 +1,216 @@
 //! Columns at the ends of their types, at the ends of words, and with nulls.
-ghost use Rattle.std.specs.Prelude.{◌≡◌, IfOk, length};
-ghost use Rattle.px_types.specs.declared.value_type.ValueType.TheVariants as kind;
+ghost use Rattle.std.specs.Prelude.{◌⊎◌, IsTrue};
+ghost use Rattle.px_types.specs.Integers.{IsInteger};
+ghost use Rattle.px_types.specs.Rows.{IsBoolean};
 
 use crate::column::Column;
 use crate::frame::{ColumnList, Frame};
 use crate::kernels::{
     is_not_null, is_null, join_lengths, kleene_and, kleene_or, kleene_xor, negate_bitwise, stretch,
 };
-use px_types::{AnyValue, DataType, PlanError, SmallStr, ValueType};
+use crate::test_columns::{Rows, Want, agrees, column, fault};
+use px_types::BooleanFunction::{self, IsNotNull, IsNull, Not};
+use px_types::Operator::{self, And, Or, Xor};
+use px_types::PlanError;
+use px_types::ValueType::{self, Boolean, Int8, Null, String};
 use std::alloc::Global;
-use std::process::Abort;
 use std::test::Fail;
 
-const T: Option<bool> = Some(true);
-
-const F: Option<bool> = Some(false);
-
-fn bools(alloc: Global, values: &[Option<bool>]) -> Result<Column, PlanError>
-    ensures { IfOk result (λ c. c.values.kind ≡ kind.Boolean) }
+fn is_operand(kind: ValueType) -> bool
+    ensures { IsTrue result → IsBoolean kind ⊎ IsInteger kind }
 {
-    Column::new_bool(alloc, "b", values)
-}
-
-fn numbers(alloc: Global, values: &[Option<i128>]) -> Result<Column, PlanError>
-    ensures { IfOk result (λ c. c.values.kind ≡ kind.Int8) }
-{
-    Column::new_int(alloc, "n", DataType::Int8, values)
-}
-
-fn one_number(alloc: Global, value: i128) -> Result<Column, PlanError>
-    ensures kind { IfOk result (λ c. c.values.kind ≡ kind.Int8) }
-    ensures one { IfOk result (λ c. length c.values.rows ≡ 1) }
-{
-    Column::new_int(alloc, "n", DataType::Int8, &[Some(value)])
-}
-
-fn three(i: usize) -> Option<bool> {
-    match i % 3 {
-        0 => None,
-        1 => T,
-        _ => F,
+    match kind {
+        Null | String => false,
+        _ => true,
     }
 }
 
-fn and(a: Option<bool>, b: Option<bool>) -> Option<bool> {
-    match (a, b) {
-        (Some(false), _) | (_, Some(false)) => F,
-        (Some(true), Some(true)) => T,
-        _ => None,
-    }
-}
-
-fn or(a: Option<bool>, b: Option<bool>) -> Option<bool> {
-    match (a, b) {
-        (Some(true), _) | (_, Some(true)) => T,
-        (Some(false), Some(false)) => F,
-        _ => None,
-    }
-}
-
-fn xor(a: Option<bool>, b: Option<bool>) -> Option<bool> {
-    Some(a? != b?)
-}
-
-/// Whether the answer is the wanted column.
-fn agree(
-    rt: &impl Abort,
-    got: Result<Column, PlanError>,
-    want: Result<Column, PlanError>,
-) -> Result<(), Fail> {
-    assert!(rt; got? == want?);
-    Ok(())
-}
-
-/// What stands in the rows of a table.
+/// A call on a column. Logic takes another.
 #[derive(Clone, Copy)]
-enum Rows {
-    First,
-    Second,
-    And,
-    Or,
-    Xor,
-    Not,
-    IsNull,
-    IsNotNull,
+enum Call {
+    Logic(Operator),
+    Test(BooleanFunction),
+    Stretch(u32),
+    Copy,
 }
 
-/// Row `i`, counted from the end. The first side and the second meet in all nine pairs.
-fn row(rows: Rows, i: usize) -> Option<bool> {
-    let (a, b) = (three(i), three(i / 3));
-    match rows {
-        Rows::First => a,
-        Rows::Second => b,
-        Rows::And => and(a, b),
-        Rows::Or => or(a, b),
-        Rows::Xor => xor(a, b),
-        Rows::Not => a.map(|t| !t),
-        Rows::IsNull => Some(a.is_none()),
-        Rows::IsNotNull => Some(a.is_some()),
+/// The answer to a call that breaks the kernel's rules.
+fn wrong_call() -> Result<Column, PlanError> {
+    Err(PlanError::KernelFailed)
+}
+
+fn inverse(alloc: Global, a: &Column) -> Result<Column, PlanError> {
+    if !is_operand(a.kind()) {
+        return wrong_call();
+    }
+    negate_bitwise(alloc, a)
+}
+
+fn tested_column(alloc: Global, call: BooleanFunction, a: &Column) -> Result<Column, PlanError> {
+    match call {
+        IsNull => is_null(alloc, a),
+        IsNotNull => is_not_null(alloc, a),
+        Not => inverse(alloc, a),
     }
 }
 
-/// `len` rows. Row 0 is the last, so that each table ends with nulls.
-fn table(alloc: Global, len: usize, rows: Rows) -> Result<Vec<Option<bool>>, PlanError> {
-    let mut values = Vec::with_capacity(alloc, len)?;
-    for i in 0..len {
-        values.push(row(rows, len - 1 - i))?;
+fn stretched(alloc: Global, a: &Column, len: u32) -> Result<Column, PlanError> {
+    if a.len() != 1 {
+        return wrong_call();
     }
-    Ok(values)
+    stretch(alloc, a, len)
 }
 
-/// The logic of two Boolean columns that the rows are of.
-fn logic(
-    alloc: Global,
-    rows: Rows,
-    a: &[Option<bool>],
-    b: &[Option<bool>],
-) -> Result<Column, PlanError> {
-    let a = bools(alloc, a)?;
-    let b = bools(alloc, b)?;
-    match rows {
-        Rows::And => kleene_and(alloc, &a, &b),
-        Rows::Or => kleene_or(alloc, &a, &b),
-        _ => kleene_xor(alloc, &a, &b),
-    }
+/// A copy, where it is equal.
+fn copied(alloc: Global, a: &Column) -> Result<Column, PlanError> {
+    let copy = a.try_clone(alloc)?;
+    if copy == *a { Ok(copy) } else { wrong_call() }
 }
 
-/// The test of a Boolean column that the rows are of, or its opposite.
-fn tested(alloc: Global, rows: Rows, a: &[Option<bool>]) -> Result<Column, PlanError> {
-    let a = bools(alloc, a)?;
-    match rows {
-        Rows::IsNull => is_null(alloc, &a),
-        Rows::IsNotNull => is_not_null(alloc, &a),
-        _ => negate_bitwise(alloc, &a),
+fn joined(alloc: Global, op: Operator, a: &Column, b: &Column) -> Result<Column, PlanError> {
+    if !is_operand(a.kind()) {
+        return wrong_call();
+    }
+    if a.kind() != b.kind() {
+        return wrong_call();
+    }
+    match op {
+        And => kleene_and(alloc, a, b),
+        Or => kleene_or(alloc, a, b),
+        _ => kleene_xor(alloc, a, b),
     }
 }
 
-fn logic_at(rt: &impl Abort, alloc: Global, rows: Rows, len: usize) -> Result<(), Fail> {
-    let a = table(alloc, len, Rows::First)?;
-    let b = table(alloc, len, Rows::Second)?;
-    let want = table(alloc, len, rows)?;
-    let got = logic(alloc, rows, a.as_slice(), b.as_slice());
-    agree(rt, got, bools(alloc, want.as_slice()))
+fn beside(alloc: Global, op: Operator, a: &Column, b: Rows) -> Result<Column, PlanError> {
+    let b = column(alloc, "b", b)?;
+    joined(alloc, op, a, &b)
 }
 
-fn test_at(rt: &impl Abort, alloc: Global, rows: Rows, len: usize) -> Result<(), Fail> {
-    let a = table(alloc, len, Rows::First)?;
-    let want = table(alloc, len, rows)?;
-    let got = tested(alloc, rows, a.as_slice());
-    agree(rt, got, bools(alloc, want.as_slice()))
+fn called(alloc: Global, call: Call, a: &Column, b: Rows) -> Result<Column, PlanError> {
+    match call {
+        Call::Logic(op) => beside(alloc, op, a, b),
+        Call::Test(test) => tested_column(alloc, test, a),
+        Call::Stretch(len) => stretched(alloc, a, len),
+        Call::Copy => copied(alloc, a),
+    }
 }
 
-fn nulls_at(rt: &impl Abort, alloc: Global, len: usize) -> Result<(), Fail> {
-    let a = table(alloc, len, Rows::First)?;
-    let a = bools(alloc, a.as_slice())?;
-    assert_eq!(rt;
-        a.null_count() as usize,
-        len / 3 + usize::from(len % 3 != 0)
-    );
-    Ok(())
+fn answer(alloc: Global, call: Call, a: Rows, b: Rows) -> Result<Column, PlanError> {
+    let a = column(alloc, "a", a)?;
+    called(alloc, call, &a, b)
 }
+
+/// Whether the call on these rows gives the wanted ones, or the wanted error.
+fn gives(alloc: Global, call: Call, a: Rows, b: Rows, want: Want) -> bool {
+    agrees(answer(alloc, call, a, b), want)
+}
+
+const TRUTHS: Rows<'static> = (Boolean, &[Some(1), None, Some(0)]);
+
+const BYTES: Rows<'static> = (Int8, &[Some(100), None, Some(-128)]);
+
+const TEXTS: Rows<'static> = (String, &[Some(4), None, Some(0)]);
+
+const NULLS: Rows<'static> = (Null, &[None, None]);
+
+const ROW: Rows<'static> = (Int8, &[Some(5)]);
+
+/// One row goes with each row of the other; lengths that do not join are refused; integers are taken
+/// bit by bit; texts are told from nulls, and nulls are no values; one row is stretched; and a copy has
+/// the rows, also those of two words.
+const CALLS: [(Call, Rows<'static>, Rows<'static>, Want<'static>); 17] = [
+    (
+        Call::Logic(And),
+        TRUTHS,
+        (Boolean, &[None]),
+        Ok((Boolean, &[None, None, Some(0)])),
+    ),
+    (
+        Call::Logic(And),
+        (Boolean, &[None]),
+        TRUTHS,
+        Ok((Boolean, &[None, None, Some(0)])),
+    ),
+    (
+        Call::Logic(And),
+        TRUTHS,
+        (Boolean, &[Some(1), Some(0)]),
+        Err("ShapeMismatch"),
+    ),
+    (
+        Call::Logic(Or),
+        (Boolean, &[]),
+        TRUTHS,
+        Err("ShapeMismatch"),
+    ),
+    (
+        Call::Logic(Xor),
+        BYTES,
+        (Int8, &[None, Some(0)]),
+        Err("ShapeMismatch"),
+    ),
+    (
+        Call::Logic(Xor),
+        BYTES,
+        (Int8, &[Some(100)]),
+        Ok((Int8, &[Some(0), None, Some(-28)])),
+    ),
+    (
+        Call::Test(Not),
+        BYTES,
+        NULLS,
+        Ok((Int8, &[Some(-101), None, Some(127)])),
+    ),
+    (
+        Call::Test(IsNull),
+        TEXTS,
+        NULLS,
+        Ok((Boolean, &[Some(0), Some(1), Some(0)])),
+    ),
+    (
+        Call::Test(IsNotNull),
+        NULLS,
+        NULLS,
+        Ok((Boolean, &[Some(0), Some(0)])),
+    ),
+    (Call::Stretch(0), ROW, NULLS, Ok((Int8, &[]))),
+    (
+        Call::Stretch(2),
+        ROW,
+        NULLS,
+        Ok((Int8, &[Some(5), Some(5)])),
+    ),
+    (Call::Copy, TRUTHS, NULLS, Ok(TRUTHS)),
+    (Call::Copy, BYTES, NULLS, Ok(BYTES)),
+    (Call::Copy, TEXTS, NULLS, Ok(TEXTS)),
+    (Call::Copy, NULLS, NULLS, Ok(NULLS)),
+    (
+        Call::Copy,
+        (Boolean, &[Some(1); 65]),
+        NULLS,
+        Ok((Boolean, &[Some(1); 65])),
+    ),
+    (
+        Call::Copy,
+        (Int8, &[Some(128)]),
+        NULLS,
+        Err("InvalidOperation"),
+    ),
+];
 
 #[test]
-fn logic_is_row_by_row_at_the_ends_of_words(rt: HostRuntime) -> Result<(), Fail> {
-    let alloc = rt.alloc();
-    for len in [0, 1, 63, 64, 65, 127, 128, 129] {
-        logic_at(&rt, alloc, Rows::And, len)?;
-        logic_at(&rt, alloc, Rows::Or, len)?;
-        logic_at(&rt, alloc, Rows::Xor, len)?;
-        test_at(&rt, alloc, Rows::Not, len)?;
-        test_at(&rt, alloc, Rows::IsNull, len)?;
-        test_at(&rt, alloc, Rows::IsNotNull, len)?;
-        nulls_at(&rt, alloc, len)?;
+fn calls_give_their_rows(rt: HostRuntime) {
+    let mut i = 0_u32;
+    for (call, a, b, want) in CALLS {
+        assert!(rt; gives(rt.alloc(), call, a, b, want), "call {i}");
+        i = i.saturating_add(1);
     }
-    Ok(())
-}
-
-#[test]
-fn one_row_goes_with_each_row(rt: HostRuntime) -> Result<(), Fail> {
-    let alloc = rt.alloc();
-    let want = [None, None, F];
-    agree(
-        &rt,
-        logic(alloc, Rows::And, &[T, None, F], &[None]),
-        bools(alloc, &want),
-    )?;
-    agree(
-        &rt,
-        logic(alloc, Rows::And, &[None], &[T, None, F]),
-        bools(alloc, &want),
-    )?;
     assert_eq!(rt; join_lengths(0, 1), Some(0));
     assert_eq!(rt; join_lengths(2, 3), None);
-    Ok(())
-}
-
-#[test]
-fn lengths_that_do_not_join_are_refused(rt: HostRuntime) -> Result<(), Fail> {
-    let got = logic(rt.alloc(), Rows::Or, &[T, None, F], &[T, F]);
-    assert!(rt; matches!(got, Err(PlanError::ShapeMismatch)));
-    Ok(())
-}
-
-fn bits_of_both(
-    alloc: Global,
-    a: &[Option<i128>],
-    b: &[Option<i128>],
-) -> Result<Column, PlanError> {
-    let a = numbers(alloc, a)?;
-    let b = numbers(alloc, b)?;
-    kleene_xor(alloc, &a, &b)
-}
-
-fn turned(alloc: Global, a: &[Option<i128>]) -> Result<Column, PlanError> {
-    let a = numbers(alloc, a)?;
-    negate_bitwise(alloc, &a)
-}
-
-fn stretched(alloc: Global, value: i128, n: u32) -> Result<Column, PlanError> {
-    let one = one_number(alloc, value)?;
-    stretch(alloc, &one, n)
-}
-
-#[test]
-fn integers_are_taken_bit_by_bit(rt: HostRuntime) -> Result<(), Fail> {
-    let alloc = rt.alloc();
-    let a = [Some(100), None, Some(-128)];
-    let both = numbers(alloc, &[Some(0), None, Some(-28)]);
-    agree(&rt, bits_of_both(alloc, &a, &[Some(100)]), both)?;
-    agree(
-        &rt,
-        turned(alloc, &a),
-        numbers(alloc, &[Some(-101), None, Some(127)]),
-    )
-}
-
-#[test]
-fn one_row_is_stretched(rt: HostRuntime) -> Result<(), Fail> {
-    let alloc = rt.alloc();
-    agree(&rt, stretched(alloc, 5, 0), numbers(alloc, &[]))?;
-    agree(
-        &rt,
-        stretched(alloc, 5, 2),
-        numbers(alloc, &[Some(5), Some(5)]),
-    )
 }
 
 const ENDS: [(ValueType, i128, i128); 8] = [
-    (ValueType::Int8, -128, 127),
+    (Int8, -128, 127),
     (ValueType::Int16, -32768, 32767),
     (ValueType::Int32, -2147483648, 2147483647),
     (ValueType::Int64, -9223372036854775808, 9223372036854775807),
@@ -257,169 +220,137 @@ const ENDS: [(ValueType, i128, i128); 8] = [
     (ValueType::UInt64, 0, 18446744073709551615),
 ];
 
-fn refused(rt: &impl Abort, alloc: Global, kind: ValueType, value: i128) -> Result<(), Fail> {
-    let column = Column::new_int(alloc, "n", kind.dtype(), &[Some(value)]);
-    assert!(rt; matches!(column, Err(PlanError::InvalidOperation)));
-    Ok(())
-}
-
-fn reaches(
-    rt: &impl Abort,
-    alloc: Global,
-    kind: ValueType,
-    low: i128,
-    high: i128,
-) -> Result<(), Fail> {
-    let values = [Some(low), None, Some(high)];
-    let c = Column::new_int(alloc, "n", kind.dtype(), &values)?;
-    assert!(rt; c.kind() == kind);
-    assert_eq!(rt; c.len(), 3);
-    assert_eq!(rt; c.null_count(), 1);
-    Ok(())
+/// Whether there is a column of the two numbers and a null, and none of either neighbour.
+fn is_range(alloc: Global, kind: ValueType, low: i128, high: i128) -> bool {
+    let rows: Rows = (kind, &[Some(low), None, Some(high)]);
+    let below: Rows = (kind, &[Some(low.saturating_sub(1))]);
+    let above: Rows = (kind, &[Some(high.saturating_add(1))]);
+    agrees(column(alloc, "a", rows), Ok(rows))
+        && agrees(column(alloc, "a", below), Err("InvalidOperation"))
+        && agrees(column(alloc, "a", above), Err("InvalidOperation"))
 }
 
 #[test]
-fn integers_reach_to_the_ends_of_their_type(rt: HostRuntime) -> Result<(), Fail> {
-    let alloc = rt.alloc();
+fn integers_reach_to_the_ends_of_their_type(rt: HostRuntime) {
     for (kind, low, high) in ENDS {
-        reaches(&rt, alloc, kind, low, high)?;
-        refused(&rt, alloc, kind, low.saturating_sub(1))?;
-        refused(&rt, alloc, kind, high.saturating_add(1))?;
-    }
-    refused(&rt, alloc, ValueType::Boolean, 0)?;
-    refused(&rt, alloc, ValueType::String, 0)
-}
-
-fn are(words: Option<&[u64]>, want: &[u64]) -> bool {
-    match words {
-        Some(words) => words == want,
-        None => false,
+        assert!(rt; is_range(rt.alloc(), kind, low, high), "{high}");
     }
 }
 
 #[test]
-fn a_boolean_column_is_two_planes(rt: HostRuntime) -> Result<(), Fail> {
-    let alloc = rt.alloc();
-    let c = bools(alloc, &[T, None, F])?;
-    assert!(rt; are(c.truth_words(), &[1]));
-    assert!(rt; are(c.valid_words(), &[5]));
-    Ok(())
+fn other_types_hold_no_integer(rt: HostRuntime) {
+    for kind in [Null, Boolean, String] {
+        let got = Column::new_int(rt.alloc(), "a", kind.dtype(), &[Some(0)]);
+        assert!(rt; agrees(got, Err("InvalidOperation")));
+    }
 }
+
+/// Of 129 rows, what stands in row `i` of the first side: the last row is null. In the second side each
+/// stands three times, so that the two meet in all nine pairs.
+fn first(i: usize) -> Option<i128> {
+    match i % 3 {
+        0 => Some(1),
+        1 => Some(0),
+        _ => None,
+    }
+}
+
+fn logic(op: Operator, a: Option<i128>, b: Option<i128>) -> Option<i128> {
+    match (op, a, b) {
+        (And, Some(0), _) | (And, _, Some(0)) => Some(0),
+        (Or, Some(1), _) | (Or, _, Some(1)) => Some(1),
+        (And, Some(_), Some(_)) => Some(1),
+        (Or, Some(_), Some(_)) => Some(0),
+        (Xor, Some(a), Some(b)) => Some(i128::from(a != b)),
+        _ => None,
+    }
+}
+
+fn tested(call: BooleanFunction, a: Option<i128>) -> Option<i128> {
+    match (call, a) {
+        (Not, None) => None,
+        (Not, Some(a)) => Some(i128::from(a == 0)),
+        (IsNull, _) => Some(i128::from(a.is_none())),
+        (IsNotNull, _) => Some(i128::from(a.is_some())),
+    }
+}
+
+/// Whether the call gives the last rows of its table.
+fn gives_table(alloc: Global, call: Call, len: usize) -> bool {
+    let (mut a, mut b, mut want) = ([None; 129], [None; 129], [None; 129]);
+    for i in 0..129 {
+        a[i] = first(i);
+        b[i] = first(i / 3);
+        want[i] = match call {
+            Call::Logic(op) => logic(op, a[i], b[i]),
+            Call::Test(test) => tested(test, a[i]),
+            _ => a[i],
+        };
+    }
+    let from = usize::saturating_sub(129, len);
+    let (a, b): (Rows, Rows) = ((Boolean, &a[from..]), (Boolean, &b[from..]));
+    gives(alloc, call, a, b, Ok((Boolean, &want[from..])))
+}
+
+const TABLES: [Call; 6] = [
+    Call::Logic(And),
+    Call::Logic(Or),
+    Call::Logic(Xor),
+    Call::Test(Not),
+    Call::Test(IsNull),
+    Call::Test(IsNotNull),
+];
 
 #[test]
-fn planes_go_on_in_the_next_word(rt: HostRuntime) -> Result<(), Fail> {
-    let alloc = rt.alloc();
-    let c = bools(alloc, [T; 65].as_slice())?;
-    assert!(rt; are(c.truth_words(), &[18446744073709551615, 1]));
-    assert!(rt; are(c.valid_words(), &[18446744073709551615, 1]));
-    Ok(())
+fn logic_is_row_by_row_at_the_ends_of_words(rt: HostRuntime) {
+    for len in [0, 1, 63, 64, 65, 127, 128, 129] {
+        for call in TABLES {
+            assert!(rt; gives_table(rt.alloc(), call, len), "at {len}");
+        }
+    }
 }
 
-#[test]
-fn no_rows_take_no_word(rt: HostRuntime) -> Result<(), Fail> {
-    let c = bools(rt.alloc(), &[])?;
-    assert!(rt; are(c.truth_words(), &[]));
-    assert!(rt; are(c.valid_words(), &[]));
-    Ok(())
+fn push(alloc: Global, columns: &mut ColumnList, name: &str, rows: Rows) -> Result<(), PlanError> {
+    columns.try_push(column(alloc, name, rows)?)
 }
 
-#[test]
-fn only_a_boolean_column_has_planes_to_show(rt: HostRuntime) -> Result<(), Fail> {
-    let alloc = rt.alloc();
-    let c = numbers(alloc, &[])?;
-    assert!(rt; c.truth_words().is_none());
-    assert!(rt; c.valid_words().is_none());
-    Ok(())
-}
-
-/// The text, a null, and a text without letters.
-fn texts(alloc: Global, text: &str) -> Result<Column, PlanError> {
-    let text = SmallStr::new(alloc, text)?;
-    let none = SmallStr::new(alloc, "")?;
-    Column::new_text(alloc, "b", &[Some(text), None, Some(none)])
-}
-
-#[test]
-fn texts_are_told_from_nulls(rt: HostRuntime) -> Result<(), Fail> {
-    let c = texts(rt.alloc(), "é")?;
-    assert_eq!(rt; c.len(), 3);
-    assert!(rt; matches!(c.get(0), AnyValue::String("é")));
-    assert!(rt; matches!(c.get(1), AnyValue::Null));
-    assert!(rt; matches!(c.get(2), AnyValue::String("")));
-    Ok(())
-}
-
-fn missing_texts(alloc: Global) -> Result<Column, PlanError> {
-    let c = texts(alloc, "é")?;
-    is_null(alloc, &c)
-}
-
-fn null_copy(alloc: Global) -> Result<Column, PlanError> {
-    let c = Column::new_null(alloc, "b", 2)?;
-    c.try_clone(alloc)
-}
-
-fn null_values(alloc: Global) -> Result<Column, PlanError> {
-    let c = Column::new_null(alloc, "b", 2)?;
-    is_not_null(alloc, &c)
-}
-
-#[test]
-fn nulls_are_no_values(rt: HostRuntime) -> Result<(), Fail> {
-    let alloc = rt.alloc();
-    agree(&rt, missing_texts(alloc), bools(alloc, &[F, T, F]))?;
-    agree(&rt, null_values(alloc), bools(alloc, &[F, F]))?;
-    agree(&rt, null_copy(alloc), Column::new_null(alloc, "b", 2))
-}
-
-#[test]
-fn a_null_column_has_nulls_alone(rt: HostRuntime) -> Result<(), Fail> {
-    let c = Column::new_null(rt.alloc(), "b", 2)?;
-    assert_eq!(rt; c.null_count(), 2);
-    assert!(rt; *c.dtype() == DataType::Null);
-    Ok(())
-}
-
-/// A frame of a Boolean column `b` and an `Int8` column `n`.
-fn framed(
-    alloc: Global,
-    flags: &[Option<bool>],
-    values: &[Option<i128>],
-) -> Result<Frame, PlanError> {
+/// A frame of the columns `a`, of three rows, and another one.
+fn framed(alloc: Global, name: &str, rows: Rows) -> Result<Frame, PlanError> {
     let mut columns = ColumnList::new(alloc);
-    columns.try_push(bools(alloc, flags)?)?;
-    columns.try_push(numbers(alloc, values)?)?;
+    push(alloc, &mut columns, "a", TRUTHS)?;
+    push(alloc, &mut columns, name, rows)?;
     Frame::new(alloc, columns)
 }
 
-fn twice(alloc: Global) -> Result<Frame, PlanError> {
-    let mut columns = ColumnList::new(alloc);
-    columns.try_push(bools(alloc, &[T, F])?)?;
-    columns.try_push(bools(alloc, &[T])?)?;
-    Frame::new(alloc, columns)
+/// Whether the frame has the two columns, the second under the name.
+fn has_two(frame: &Frame, name: &str) -> bool {
+    frame.height() == 3
+        && frame.columns().len() == 2
+        && frame.schema().len() == 2
+        && frame.column("a").is_some()
+        && frame.column(name).is_some()
+        && frame.column("c").is_none()
 }
 
-#[test]
-fn a_frame_finds_its_columns(rt: HostRuntime) -> Result<(), Fail> {
-    let alloc = rt.alloc();
-    let frame = framed(rt.alloc(), &[T, F], &[Some(1), None])?;
-    assert_eq!(rt; frame.height(), 2);
-    assert_eq!(rt; frame.schema().len(), 2);
-    assert!(rt; frame.column("n").is_some());
-    assert!(rt; frame.column("c").is_none());
-    Ok(())
+/// The refusal of such a frame, or none where it is right.
+fn refusal(alloc: Global, name: &str, rows: Rows) -> Option<&'static str> {
+    match framed(alloc, name, rows) {
+        Ok(frame) if has_two(&frame, name) => None,
+        Ok(_) => Some("wrong columns"),
+        Err(error) => Some(fault(&error)),
+    }
+}
+
+fn empty_height(alloc: Global) -> Result<u32, PlanError> {
+    Ok(Frame::new(alloc, ColumnList::new(alloc))?.height())
 }
 
 #[test]
 fn a_frame_has_distinct_names_and_one_height(rt: HostRuntime) -> Result<(), Fail> {
     let alloc = rt.alloc();
-    assert!(rt;
-        matches!(
-            framed(alloc, &[T, F], &[Some(1)]),
-            Err(PlanError::ShapeMismatch)
-        )
-    );
-    assert!(rt; matches!(twice(alloc), Err(PlanError::Duplicate(_))));
-    assert_eq!(rt; Frame::new(alloc, ColumnList::new(alloc))?.height(), 0);
+    assert_eq!(rt; refusal(alloc, "b", BYTES), None);
+    assert_eq!(rt; refusal(alloc, "b", NULLS), Some("ShapeMismatch"));
+    assert_eq!(rt; refusal(alloc, "a", NULLS), Some("Duplicate"));
+    assert_eq!(rt; empty_height(alloc)?, 0);
     Ok(())
 }

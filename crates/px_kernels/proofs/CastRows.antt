@@ -26,6 +26,7 @@ use Rattle.px_types.specs.declared.kinds.CastOptions.TheVariants.{Strict, NonStr
 use Rattle.px_types.specs.declared.value_type.ValueType.{ValueType}
 use Rattle.px_types.specs.declared.value_type.ValueType.TheVariants.{Boolean}
 use Rattle.px_kernels.specs.Casting.{held_number, held_bits, any_bit_lost, CastsAll}
+use Rattle.px_column.proofs.Joining.{of_kind}
 
 pub held_test : (k : ValueType) (z w : ℤ) (o : Bool) → w ≡ z → (IsTrue o → InRange k w) → (InRange k w → IsTrue o) → o ≡ holds k z
 held_test k z w o e to from = same_from_decides o (holds k w) (to, from) (holds_decides k w) ∙ ap (holds k) e
@@ -317,10 +318,6 @@ void_gives Overflowing rows n l h = ap (λ m. Some (replicate m None)) l ∙ ap 
 pub refused : {P Q : Type 0} (e : PlanError) → (P → Q) → (e ≡ OutOfMemory) ⊎ ((e ≡ InvalidCast) × P) → (e ≡ OutOfMemory) ⊎ ((e ≡ InvalidCast) × Q)
 refused e f (inl h) = inl h
 refused e f (inr h) = inr (h.0, f h.1)
-
--- rows under a type
-abbrev pub of_kind : ValueType → List Row → TypedRows
-of_kind k rows = record { kind = k; rows = rows }
 
 pub column_gives : (options : CastOptions) (to : DataType) (a : TypedRows) (k : ValueType) (rows : List Row) → value_type_of to ≡ Some k
     → Some rows ≡ cast_list options (cast_value options k) a.rows → Some (of_kind k rows) ≡ cast_to options to a

@@ -9,7 +9,7 @@ use Rattle.px_types.specs.Rows.{Row, TypedRows, Truth, Text, Integer, entry, tru
 use Rattle.px_types.specs.declared.value_type.ValueType.{ValueType}
 use Rattle.px_types.specs.declared.value_type.ValueType.TheVariants.{Boolean}
 use Rattle.px_rows.proofs.Joins.{joined_same, joined_left, joined_right, joined_none, stretch_one, stretch_whole}
-use Rattle.px_column.proofs.LawLemmas.{by_eq}
+use Rattle.px_column.proofs.Joining.{joins_to, stretch_long, of_kind}
 use Rattle.px_kernels.specs.Picks.{picked_bits, picked_places}
 
 pub choose_length : (ms xs ys : List Row) → length ms ≡ length xs → length xs ≡ length ys → length (choose_all ms xs ys) ≡ length xs
@@ -163,37 +163,10 @@ choose_entries (m ∷ ms) (u ∷ us) (v ∷ vs) (x ∷ xs) [] p q = cc
 choose_entries (m ∷ ms) (u ∷ us) (v ∷ vs) (x ∷ xs) (y ∷ ys) p q =
     let here = pick_entry (is_true m) u v x y in let rest = choose_entries ms us vs xs ys (omega arith) (omega arith) in cc
 
-some_same : (a b : ℕ) → Some a ≡ Some b → a ≡ b
-some_same a b e = cc
-
-no_some : (a : ℕ) → None ≡ Some a → ⊥
-no_some a e = cc
-
--- a length that joins is one, or the joined length
-pub joins_to : (m n k : ℕ) → joined m n ≡ Some k → ((m ≡ 1) ⊎ (m ≡ k)) × ((n ≡ 1) ⊎ (n ≡ k))
-joins_to m n k h = elim (by_eq m n) [
-  | inl e ↦ let is : m ≡ k = some_same m k (sym (joined_same m n e) ∙ h) in (inr is, inr (sym e ∙ is))
-  | inr d ↦ elim (by_eq m 1) [
-    | inl e ↦ (inl e, inr (some_same n k (sym (joined_left m n e) ∙ h)))
-    | inr f ↦ elim (by_eq n 1) [
-      | inl e ↦ (inr (some_same m k (sym (joined_right m n d f e) ∙ h)), inl e)
-      | inr g ↦ absurd (no_some k (sym (joined_none m n d f g) ∙ h))
-    ]
-  ]
-]
-
 pub onward : (m inner len : ℕ) → (m ≡ 1) ⊎ (m ≡ inner) → (inner ≡ 1) ⊎ (inner ≡ len) → (m ≡ 1) ⊎ (m ≡ len)
 onward m inner len (inl e) q = inl e
 onward m inner len (inr e) (inl f) = inl (e ∙ f)
 onward m inner len (inr e) (inr f) = inr (e ∙ f)
-
-pub stretch_long : (rows : List Row) (n : ℕ) → (length rows ≡ 1) ⊎ (length rows ≡ n) → length (stretch n rows) ≡ n
-stretch_long rows n (inl e) = ap length (stretch_one rows n e) ∙ length-replicate n (get_or rows 0 None)
-stretch_long rows n (inr e) = ap length (stretch_whole rows n e) ∙ e
-
--- rows under a type
-abbrev pub of_kind : ValueType → List Row → TypedRows
-of_kind kind rows = record { kind = kind; rows = rows }
 
 pub choice_gives : (mask a b : TypedRows) (inner len : ℕ) → joined (length a.rows) (length b.rows) ≡ Some inner → joined (length mask.rows) inner ≡ Some len
     → Some (of_kind a.kind (choose_all (stretch len mask.rows) (stretch len a.rows) (stretch len b.rows))) ≡ choose_rows mask a b

@@ -11,6 +11,7 @@ use Rattle.px_types.specs.declared.operator.Operator.TheVariants.{Divide, FloorD
 use Rattle.px_types.specs.declared.value_type.ValueType.{ValueType}
 use Rattle.px_types.specs.Rows.{Row, Truth, Text, Integer, entry, lift, joined, stretch, row_by_row}
 use Rattle.px_rows.proofs.Joins.{stretch_one, stretch_other}
+use Rattle.px_column.proofs.Joining.{option_same}
 use Rattle.px_column.proofs.LawLemmas.{by_eq}
 use Rattle.px_operations.specs.Quotients.{quotient_of, rest_of}
 use Rattle.px_kernels.proofs.TestRows.{zip2_same}
@@ -33,10 +34,6 @@ zip2_map : (f : Row → Row → Row) (h : Row → Row) (xs ys : List Row) → zi
 zip2_map f h [] ys = refl
 zip2_map f h (x ∷ xs) [] = refl
 zip2_map f h (x ∷ xs) (y ∷ ys) = ap (λ l. f x (h y) ∷ l) (zip2_map f h xs ys)
-
-pub option_same : (f g : ℕ → List Row) → ((n : ℕ) → f n ≡ g n) → (o : Option ℕ) → option_map f o ≡ option_map g o
-option_same f g h (Some n) = ap Some (h n)
-option_same f g h None = refl
 
 -- rows that are changed before an operation
 pub rows_changed : (f : Row → Row → Row) (h : Row → Row) → h None ≡ None → (xs ys : List Row) → row_by_row f xs (map h ys) ≡ row_by_row (λ x y. f x (h y)) xs ys

@@ -8,15 +8,12 @@ use Rattle.px_types.specs.declared.value_type.ValueType.TheVariants.{Boolean}
 use Rattle.px_types.specs.Arithmetic.{arith_row, arith_rows}
 use Rattle.px_types.specs.Comparisons.{compare_row, compare_rows}
 use Rattle.px_types.specs.Rows.{Row, TypedRows, row_by_row}
+use Rattle.px_column.proofs.Joining.{of_kind}
 
 -- a refusal for a cause that brings another
 pub refused : {P Q : Type 0} (e : PlanError) → (P → Q) → (e ≡ OutOfMemory) ⊎ ((e ≡ ShapeMismatch) × P) → (e ≡ OutOfMemory) ⊎ ((e ≡ ShapeMismatch) × Q)
 refused e f (inl h) = inl h
 refused e f (inr h) = inr (h.0, f h.1)
-
--- rows under a type
-abbrev pub of_kind : ValueType → List Row → TypedRows
-of_kind kind rows = record { kind = kind; rows = rows }
 
 pub compare_gives : (o : Operator) (a b : TypedRows) (rows : List Row) → Some rows ≡ row_by_row (compare_row o) a.rows b.rows → Some (of_kind Boolean rows) ≡ compare_rows o a b
 unfolding compare_rows

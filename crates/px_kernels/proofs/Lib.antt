@@ -3,5 +3,5 @@ pub mod KernelRows
 pub mod Opposites
 pub mod ChoiceRows
 pub mod DividedRows
-pub mod FusedRows
 pub mod CastRows
+pub mod FormRows

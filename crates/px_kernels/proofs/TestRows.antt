@@ -8,6 +8,7 @@ use Rattle.px_types.specs.Logic.{is_true, not_row}
 use Rattle.px_types.specs.Rows.{Row, Datum, Truth, Text, Integer, entry, truth_entry, IsRowOf}
 use Rattle.px_types.specs.declared.value_type.ValueType.TheVariants.{Boolean}
 use Rattle.px_rows.specs.BitsOf.{certain}
+use Rattle.px_column.proofs.Joining.{zip2_flip}
 use Rattle.px_kernels.specs.Matches.{match_row, mismatch_row}
 
 test_entry : (f : Datum → Datum → Bool) (u v : Bool) (x y : ℤ) → truth_entry (f (Integer x) (Integer y)) (u && v) ≡ test_row f (entry u x) (entry v y)
@@ -84,12 +85,6 @@ pub map_zip2 : {A B C D : Type 0} (h : C → D) (g : A → B → C) (us : List A
 map_zip2 h g [] vs = refl
 map_zip2 h g (u ∷ us) [] = refl
 map_zip2 h g (u ∷ us) (v ∷ vs) = ap (λ l. h (g u v) ∷ l) (map_zip2 h g us vs)
-
-pub zip2_flip : {A B C : Type 0} (g : A → B → C) (us : List A) (vs : List B) → zip2 g us vs ≡ zip2 (λ v u. g u v) vs us
-zip2_flip g [] [] = refl
-zip2_flip g [] (v ∷ vs) = refl
-zip2_flip g (u ∷ us) [] = refl
-zip2_flip g (u ∷ us) (v ∷ vs) = ap (λ l. g u v ∷ l) (zip2_flip g us vs)
 
 pub zip2_same : {A B C : Type 0} (f g : A → B → C) → ((x : A) (y : B) → f x y ≡ g x y) → (xs : List A) (ys : List B) → zip2 f xs ys ≡ zip2 g xs ys
 zip2_same f g h [] ys = refl

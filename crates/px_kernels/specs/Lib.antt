@@ -1,5 +1,5 @@
 pub mod Matches
 pub mod Kinds
 pub mod Picks
-pub mod Laws
 pub mod Casting
+pub mod FusedPlaces

@@ -1,16 +1,9 @@
 //! Casts between `Null`, `Boolean` and the integer types, at the ends of types and at null.
-ghost use Rattle.std.specs.Prelude.{◌≡◌, IfOk, IsTrue};
-ghost use Rattle.px_types.specs.Casts.{IsScalar};
-ghost use Rattle.px_types.specs.declared.value_type.ValueType.TheVariants as kind;
 
-use crate::casts::cast;
-use crate::operators::arith;
-use crate::test_columns::{agree, bools};
-use px_column::Column;
-use px_types::{CastOptions, DataType, Operator, PlanError, SmallStr, ValueType};
+use crate::test_calls::{Call, gives};
+use crate::test_columns::{Rows, Want};
+use px_types::{CastOptions, Operator, ValueType};
 use std::alloc::Global;
-use std::process::Abort;
-use std::test::Fail;
 
 const OPTIONS: [CastOptions; 3] = [
     CastOptions::Strict,
@@ -113,51 +106,6 @@ const RESIDUES: [[(i128, i128); 8]; 8] = [
     ],
 ];
 
-fn is_scalar(kind: ValueType) -> bool
-    ensures { IsTrue result → IsScalar kind }
-{
-    match kind {
-        ValueType::String => false,
-        _ => true,
-    }
-}
-
-fn cast_scalars(
-    alloc: Global,
-    a: &Column,
-    to: ValueType,
-    options: CastOptions,
-) -> Result<Column, PlanError> {
-    if !is_scalar(a.kind()) {
-        return Err(PlanError::InvalidOperation);
-    }
-    if !is_scalar(to) {
-        return Err(PlanError::InvalidOperation);
-    }
-    cast(alloc, a, &to.dtype(), options)
-}
-
-fn ints(alloc: Global, kind: ValueType, values: &[Option<i128>]) -> Result<Column, PlanError> {
-    Column::new_int(alloc, "n", kind.dtype(), values)
-}
-
-fn gives(
-    rt: &impl Abort,
-    alloc: Global,
-    a: &Column,
-    to: ValueType,
-    options: CastOptions,
-    want: Result<Column, PlanError>,
-) -> Result<(), Fail> {
-    agree(rt, cast_scalars(alloc, a, to, options), want)
-}
-
-fn is_refused(rt: &impl Abort, alloc: Global, a: &Column, to: ValueType) -> Result<(), Fail> {
-    let got = cast_scalars(alloc, a, to, CastOptions::Strict);
-    assert!(rt; matches!(got, Err(PlanError::InvalidCast)));
-    Ok(())
-}
-
 /// The number where it is its own residue.
 fn known(number: i128, residue: i128) -> Option<i128> {
     if number == residue {
@@ -167,284 +115,133 @@ fn known(number: i128, residue: i128) -> Option<i128> {
     }
 }
 
-/// The two ends of a type in another type, where their residues are these.
+/// Whether casts give these rows: where they may overflow, where they are not strict, and where they are.
+fn give(alloc: Global, from: Rows, wrapped: Rows, held: Rows, strict: Want) -> bool {
+    let (to, _) = wrapped;
+    let overflowing = Call::Cast(to, CastOptions::Overflowing);
+    let lax = Call::Cast(to, CastOptions::NonStrict);
+    gives(alloc, overflowing, from, from, from, Ok(wrapped))
+        && gives(alloc, lax, from, from, from, Ok(held))
+        && gives(
+            alloc,
+            Call::Cast(to, CastOptions::Strict),
+            from,
+            from,
+            from,
+            strict,
+        )
+}
+
+/// Whether each of the casts gives the rows.
+fn all_give(alloc: Global, from: Rows, want: Rows) -> bool {
+    give(alloc, from, want, want, Ok(want))
+}
+
+/// What a strict cast gives of numbers with these residues.
+fn strict<'a>(ends: (i128, i128), residues: (i128, i128), held: Rows<'a>) -> Want<'a> {
+    if ends.0 == residues.0 && ends.1 == residues.1 {
+        Ok(held)
+    } else {
+        Err("InvalidCast")
+    }
+}
+
+/// Whether the two ends of a type have these residues in another type.
 fn ends_go(
-    rt: &impl Abort,
     alloc: Global,
-    a: &Column,
+    from: ValueType,
     ends: (i128, i128),
     to: ValueType,
     residues: (i128, i128),
-) -> Result<(), Fail> {
-    let wrapped = [Some(residues.0), None, Some(residues.1), Some(7)];
-    let (low, high) = (known(ends.0, residues.0), known(ends.1, residues.1));
-    gives(
-        rt,
-        alloc,
-        a,
-        to,
-        CastOptions::Overflowing,
-        ints(alloc, to, &wrapped),
-    )?;
-    gives(
-        rt,
-        alloc,
-        a,
-        to,
-        CastOptions::NonStrict,
-        ints(alloc, to, &[low, None, high, Some(7)]),
-    )?;
-    if low.is_some() && high.is_some() {
-        return gives(
-            rt,
-            alloc,
-            a,
-            to,
-            CastOptions::Strict,
-            ints(alloc, to, &wrapped),
-        );
-    }
-    is_refused(rt, alloc, a, to)
-}
-
-fn type_goes(
-    rt: &impl Abort,
-    alloc: Global,
-    from: ValueType,
-    ends: (i128, i128),
-    residues: [(i128, i128); 8],
-) -> Result<(), Fail> {
-    let a = ints(alloc, from, &[Some(ends.0), None, Some(ends.1), Some(7)])?;
-    for ((to, _, _), pair) in ENDS.into_iter().zip(residues) {
-        ends_go(rt, alloc, &a, ends, to, pair)?;
-    }
-    Ok(())
+) -> bool {
+    let low = known(ends.0, residues.0);
+    let high = known(ends.1, residues.1);
+    let from: Rows = (from, &[Some(ends.0), None, Some(ends.1), Some(7)]);
+    let wrapped: Rows = (to, &[Some(residues.0), None, Some(residues.1), Some(7)]);
+    let held: Rows = (to, &[low, None, high, Some(7)]);
+    give(alloc, from, wrapped, held, strict(ends, residues, held))
 }
 
 #[test]
-fn integers_are_cast_to_each_integer_type(rt: HostRuntime) -> Result<(), Fail> {
+fn integers_are_cast_to_each_integer_type(rt: HostRuntime) {
     let alloc = rt.alloc();
     for ((from, low, high), residues) in ENDS.into_iter().zip(RESIDUES) {
-        type_goes(&rt, alloc, from, (low, high), residues)?;
-    }
-    Ok(())
-}
-
-fn flags_go(
-    rt: &impl Abort,
-    alloc: Global,
-    to: ValueType,
-    options: CastOptions,
-) -> Result<(), Fail> {
-    let flags = bools(alloc, &[Some(true), None, Some(false)])?;
-    gives(
-        rt,
-        alloc,
-        &flags,
-        to,
-        options,
-        ints(alloc, to, &[Some(1), None, Some(0)]),
-    )
-}
-
-fn numbers_go(
-    rt: &impl Abort,
-    alloc: Global,
-    from: ValueType,
-    low: i128,
-    high: i128,
-    options: CastOptions,
-) -> Result<(), Fail> {
-    let a = ints(alloc, from, &[Some(low), None, Some(high), Some(0)])?;
-    let want = bools(alloc, &[Some(low != 0), None, Some(true), Some(false)]);
-    gives(rt, alloc, &a, ValueType::Boolean, options, want)
-}
-
-#[test]
-fn truth_values_are_one_and_zero(rt: HostRuntime) -> Result<(), Fail> {
-    let alloc = rt.alloc();
-    for options in OPTIONS {
-        for (kind, low, high) in ENDS {
-            flags_go(&rt, alloc, kind, options)?;
-            numbers_go(&rt, alloc, kind, low, high, options)?;
+        for ((to, _, _), pair) in ENDS.into_iter().zip(residues) {
+            assert!(rt;
+                ends_go(alloc, from, (low, high), to, pair),
+                "{low} to {}",
+                pair.0
+            );
         }
     }
-    Ok(())
 }
 
-fn nulls_go(
-    rt: &impl Abort,
-    alloc: Global,
-    to: ValueType,
-    options: CastOptions,
-    want: Result<Column, PlanError>,
-) -> Result<(), Fail> {
-    let nulls = Column::new_null(alloc, "n", 2)?;
-    gives(rt, alloc, &nulls, to, options, want)
+/// Whether truth values are 1 and 0, and a number is true where it is not 0.
+fn truths_go(alloc: Global, kind: ValueType, low: i128, high: i128) -> bool {
+    let flags: Rows = (ValueType::Boolean, &[Some(1), None, Some(0)]);
+    let bits: Rows = (kind, &[Some(1), None, Some(0)]);
+    let from: Rows = (kind, &[Some(low), None, Some(high), Some(0)]);
+    let truths: Rows = (
+        ValueType::Boolean,
+        &[Some(i128::from(low != 0)), None, Some(1), Some(0)],
+    );
+    all_give(alloc, flags, bits) && all_give(alloc, from, truths)
 }
 
-/// Integers that are all null, as nulls.
-fn missing_go(
-    rt: &impl Abort,
-    alloc: Global,
-    from: ValueType,
-    options: CastOptions,
-) -> Result<(), Fail> {
-    let a = ints(alloc, from, &[None, None])?;
-    let want = Column::new_null(alloc, "n", 2);
-    gives(rt, alloc, &a, ValueType::Null, options, want)
-}
+const NULLS: Rows<'static> = (ValueType::Null, &[None, None]);
 
-/// Truth values that are all null.
-fn unknown_go(
-    rt: &impl Abort,
-    alloc: Global,
-    to: ValueType,
-    options: CastOptions,
-    want: Result<Column, PlanError>,
-) -> Result<(), Fail> {
-    let flags = bools(alloc, &[None, None])?;
-    gives(rt, alloc, &flags, to, options, want)
+/// Whether nulls stay nulls, to the type and from it.
+fn nulls_go(alloc: Global, kind: ValueType) -> bool {
+    let nulls: Rows = (kind, &[None, None]);
+    all_give(alloc, NULLS, nulls) && all_give(alloc, nulls, NULLS) && all_give(alloc, nulls, nulls)
 }
 
 #[test]
-fn nulls_stay_nulls(rt: HostRuntime) -> Result<(), Fail> {
+fn truth_values_are_one_and_zero_and_nulls_stay_nulls(rt: HostRuntime) {
     let alloc = rt.alloc();
-    for options in OPTIONS {
-        for (kind, _, _) in ENDS {
-            nulls_go(&rt, alloc, kind, options, ints(alloc, kind, &[None, None]))?;
-            missing_go(&rt, alloc, kind, options)?;
-        }
-        nulls_go(
-            &rt,
-            alloc,
-            ValueType::Boolean,
-            options,
-            bools(alloc, &[None, None]),
-        )?;
-        unknown_go(
-            &rt,
-            alloc,
-            ValueType::Null,
-            options,
-            Column::new_null(alloc, "n", 2),
-        )?;
-        unknown_go(
-            &rt,
-            alloc,
-            ValueType::Boolean,
-            options,
-            bools(alloc, &[None, None]),
-        )?;
+    for (kind, low, high) in ENDS {
+        assert!(rt; truths_go(alloc, kind, low, high));
+        assert!(rt; nulls_go(alloc, kind));
     }
-    Ok(())
-}
-
-fn values_are_lost(rt: &impl Abort, alloc: Global, a: &Column) -> Result<(), Fail> {
-    let to = ValueType::Null;
-    gives(
-        rt,
-        alloc,
-        a,
-        to,
-        CastOptions::NonStrict,
-        Column::new_null(alloc, "n", 2),
-    )?;
-    gives(
-        rt,
-        alloc,
-        a,
-        to,
-        CastOptions::Overflowing,
-        Column::new_null(alloc, "n", 2),
-    )?;
-    is_refused(rt, alloc, a, to)
+    assert!(rt; nulls_go(alloc, ValueType::Boolean));
 }
 
 #[test]
-fn null_has_no_value(rt: HostRuntime) -> Result<(), Fail> {
+fn texts_stay_texts_and_null_has_no_value(rt: HostRuntime) {
     let alloc = rt.alloc();
-    values_are_lost(&rt, alloc, &bools(alloc, &[None, Some(false)])?)?;
-    values_are_lost(
-        &rt,
-        alloc,
-        &ints(alloc, ValueType::UInt64, &[Some(0), None])?,
-    )
-}
-
-fn texts(alloc: Global) -> Result<Column, PlanError>
-    ensures { IfOk result (λ c. c.values.kind ≡ kind.String) }
-{
-    let text = SmallStr::new(alloc, "é")?;
-    Column::new_text(alloc, "n", &[Some(text), None])
-}
-
-fn same_texts(alloc: Global, options: CastOptions) -> Result<Column, PlanError> {
-    let a = texts(alloc)?;
-    cast(alloc, &a, &DataType::String, options)
-}
-
-#[test]
-fn texts_stay_texts(rt: HostRuntime) -> Result<(), Fail> {
-    let alloc = rt.alloc();
-    for options in OPTIONS {
-        agree(&rt, same_texts(alloc, options), texts(alloc))?;
+    let texts: Rows = (ValueType::String, &[Some(4), None, Some(0)]);
+    assert!(rt; all_give(alloc, texts, texts));
+    let flags: Rows = (ValueType::Boolean, &[None, Some(0)]);
+    let numbers: Rows = (ValueType::UInt64, &[Some(0), None]);
+    for rows in [flags, numbers] {
+        assert!(rt; give(alloc, rows, NULLS, NULLS, Err("InvalidCast")));
     }
-    Ok(())
 }
 
 /// The numbers from 0 to 63, and one row more.
-fn with_last(alloc: Global, kind: ValueType, last: Option<i128>) -> Result<Column, PlanError> {
-    let mut values = Vec::with_capacity(alloc, 65)?;
+fn with_last(last: Option<i128>) -> [Option<i128>; 65] {
+    let mut values = [last; 65];
     for i in 0..64_u8 {
-        values.push(Some(i128::from(i)))?;
+        values[i as usize] = Some(i128::from(i));
     }
-    values.push(last)?;
-    ints(alloc, kind, values.as_slice())
+    values
 }
 
 #[test]
-fn one_row_of_65_is_lost(rt: HostRuntime) -> Result<(), Fail> {
-    let alloc = rt.alloc();
+fn one_row_of_65_is_lost(rt: HostRuntime) {
     let to = ValueType::UInt8;
-    let a = with_last(alloc, ValueType::Int32, Some(300))?;
-    gives(
-        &rt,
-        alloc,
-        &a,
-        to,
-        CastOptions::NonStrict,
-        with_last(alloc, to, None),
-    )?;
-    gives(
-        &rt,
-        alloc,
-        &a,
-        to,
-        CastOptions::Overflowing,
-        with_last(alloc, to, Some(44)),
-    )?;
-    is_refused(&rt, alloc, &a, to)
+    let (from, wrapped, held) = (with_last(Some(300)), with_last(Some(44)), with_last(None));
+    let from: Rows = (ValueType::Int32, &from);
+    let lost = Err("InvalidCast");
+    assert!(rt; give(rt.alloc(), from, (to, &wrapped), (to, &held), lost));
 }
 
-/// The sums of 300 and null, and of 1 and 2: the first is null, and has a value behind it.
-fn sums(alloc: Global) -> Result<Column, PlanError> {
-    let a = Column::new_int(alloc, "n", DataType::Int32, &[Some(300), Some(1)])?;
-    let b = Column::new_int(alloc, "n", DataType::Int32, &[None, Some(2)])?;
-    arith(alloc, Operator::Plus, &a, &b)
-}
-
+/// The sum of 300 and null is null, and has a value behind it that is no byte.
 #[test]
-fn what_stands_behind_a_null_is_not_lost(rt: HostRuntime) -> Result<(), Fail> {
-    let alloc = rt.alloc();
-    let to = ValueType::UInt8;
-    let a = sums(alloc)?;
-    gives(
-        &rt,
-        alloc,
-        &a,
-        to,
-        CastOptions::Strict,
-        ints(alloc, to, &[None, Some(3)]),
-    )
+fn what_stands_behind_a_null_is_not_lost(rt: HostRuntime) {
+    let call = Call::PairAs(Operator::Plus, ValueType::UInt8);
+    let a: Rows = (ValueType::Int32, &[Some(300), Some(1)]);
+    let b: Rows = (ValueType::Int32, &[None, Some(2)]);
+    let want: Rows = (ValueType::UInt8, &[None, Some(3)]);
+    assert!(rt; gives(rt.alloc(), call, a, b, b, Ok(want)));
 }

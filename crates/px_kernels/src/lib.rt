@@ -5,7 +5,7 @@ mod arithmetic;
 mod casts;
 mod choice;
 mod comparison;
-mod laws;
+mod fusion;
 mod operators;
 mod row_tests;
 mod zeros;
@@ -14,16 +14,15 @@ pub use arithmetic::negate;
 pub use casts::cast;
 pub use choice::zip_with;
 pub use comparison::compare;
-pub use laws::{
-    difference_with_product_fuses, product_with_difference_fuses, product_with_sum_fuses,
-    sum_with_product_fuses,
-};
+pub use fusion::fused;
 pub use operators::arith;
 
 #[cfg(test)]
 mod cast_tests;
 #[cfg(test)]
 mod ends_tests;
+#[cfg(test)]
+mod test_calls;
 #[cfg(test)]
 mod test_columns;
 #[cfg(test)]

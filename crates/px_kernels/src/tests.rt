@@ -1,212 +1,234 @@
-//! Kernels at zero, at null and at the ends of types.
-ghost use Rattle.std.specs.Prelude.{◌≡◌, IfOk};
-ghost use Rattle.px_types.specs.Arithmetic.{IsArithmetic};
-ghost use Rattle.px_types.specs.Comparisons.{IsComparison};
-ghost use Rattle.px_types.specs.declared.value_type.ValueType.TheVariants as kind;
+//! Kernels at zero, at null and at lengths that do not join.
 
-use crate::arithmetic::negate;
-use crate::choice::zip_with;
-use crate::comparison::compare;
-use crate::operators::arith;
-use crate::test_columns::{agree, bools};
-use px_column::Column;
-use px_types::{DataType, Operator, PlanError, SmallStr};
-use std::alloc::Global;
-use std::test::Fail;
+use crate::test_calls::{Call, gives};
+use crate::test_columns::{Rows, Want};
+use px_types::FusedOperator::{self, MultiplyAdd, MultiplySub, SubMultiply};
+use px_types::Operator::{self, Eq, EqValidity, FloorDivide, Lt, LtEq, Modulus, Plus};
+use px_types::ValueType::{Boolean, Int8, Int32, Null, String};
 
-fn bytes(alloc: Global, values: &[Option<i128>]) -> Result<Column, PlanError>
-    ensures { IfOk result (λ c. c.values.kind ≡ kind.Int8) }
-{
-    Column::new_int(alloc, "n", DataType::Int8, values)
-}
+/// Dividends, and a divisor for each.
+const A: Rows<'static> = (Int8, &[Some(-128), Some(7), None, Some(-7), Some(7)]);
 
-/// The first text, a null, and the last.
-fn texts(alloc: Global, first: &str, last: &str) -> Result<Column, PlanError>
-    ensures { IfOk result (λ c. c.values.kind ≡ kind.String) }
-{
-    let texts = [
-        Some(SmallStr::new(alloc, first)?),
-        None,
-        Some(SmallStr::new(alloc, last)?),
-    ];
-    Column::new_text(alloc, "n", &texts)
-}
+const B: Rows<'static> = (Int8, &[Some(-1), Some(0), Some(1), Some(2), Some(-2)]);
 
-/// The operator on two columns of bytes.
-fn combined(
-    alloc: Global,
-    op: Operator,
-    a: &[Option<i128>],
-    b: &[Option<i128>],
-) -> Result<Column, PlanError>
-    requires { IsArithmetic op }
-{
-    let a = bytes(alloc, a)?;
-    let b = bytes(alloc, b)?;
-    arith(alloc, op, &a, &b)
-}
+/// A value and two nulls, and a null between two values.
+const C: Rows<'static> = (Int8, &[Some(1), None, None]);
 
-fn opposites(alloc: Global, a: &[Option<i128>]) -> Result<Column, PlanError> {
-    let a = bytes(alloc, a)?;
-    negate(alloc, &a)
-}
+const D: Rows<'static> = (Int8, &[Some(1), None, Some(2)]);
 
-/// The comparison of two columns of bytes.
-fn compared(
-    alloc: Global,
-    op: Operator,
-    a: &[Option<i128>],
-    b: &[Option<i128>],
-) -> Result<Column, PlanError>
-    requires { IsComparison op }
-{
-    let a = bytes(alloc, a)?;
-    let b = bytes(alloc, b)?;
-    compare(alloc, op, &a, &b)
-}
+const NULL: Rows<'static> = (Null, &[None]);
 
-fn bool_order(alloc: Global, a: &[Option<bool>], b: &[Option<bool>]) -> Result<Column, PlanError> {
-    let a = bools(alloc, a)?;
-    let b = bools(alloc, b)?;
-    compare(alloc, Operator::Lt, &a, &b)
-}
+/// Quotients round down and are null at zero; comparisons see nulls; texts are compared by their bytes;
+/// false is below true; lengths that do not join are refused.
+const PAIRS: [(Operator, Rows<'static>, Rows<'static>, Want<'static>); 10] = [
+    (
+        FloorDivide,
+        A,
+        B,
+        Ok((Int8, &[Some(-128), None, None, Some(-4), Some(-4)])),
+    ),
+    (
+        Modulus,
+        A,
+        B,
+        Ok((Int8, &[Some(0), None, None, Some(1), Some(-1)])),
+    ),
+    (
+        EqValidity,
+        C,
+        D,
+        Ok((Boolean, &[Some(1), Some(1), Some(0)])),
+    ),
+    (LtEq, C, D, Ok((Boolean, &[Some(1), None, None]))),
+    (Eq, NULL, NULL, Ok((Boolean, &[None]))),
+    (EqValidity, NULL, NULL, Ok((Boolean, &[Some(1)]))),
+    (
+        Lt,
+        (String, &[Some(1), None, Some(4)]),
+        (String, &[Some(2), None, Some(3)]),
+        Ok((Boolean, &[Some(1), None, Some(0)])),
+    ),
+    (
+        Lt,
+        (Boolean, &[Some(0), Some(1), None]),
+        (Boolean, &[Some(1), Some(1), Some(1)]),
+        Ok((Boolean, &[Some(1), Some(0), None])),
+    ),
+    (Lt, C, (Int8, &[None, None]), Err("ShapeMismatch")),
+    (Plus, C, (Int8, &[None, None]), Err("ShapeMismatch")),
+];
 
-fn text_order(alloc: Global, a: (&str, &str), b: (&str, &str)) -> Result<Column, PlanError> {
-    let a = texts(alloc, a.0, a.1)?;
-    let b = texts(alloc, b.0, b.1)?;
-    compare(alloc, Operator::Lt, &a, &b)
-}
-
-/// Bytes chosen by true, null and false.
-fn byte_choice(
-    alloc: Global,
-    mask: &Column,
-    a: &[Option<i128>],
-    b: &[Option<i128>],
-) -> Result<Column, PlanError>
-    requires { mask.now.values.kind ≡ kind.Boolean }
-{
-    let a = bytes(alloc, a)?;
-    let b = bytes(alloc, b)?;
-    zip_with(alloc, mask, &a, &b)
-}
-
-fn text_choice(
-    alloc: Global,
-    mask: &Column,
-    a: (&str, &str),
-    b: (&str, &str),
-) -> Result<Column, PlanError>
-    requires { mask.now.values.kind ≡ kind.Boolean }
-{
-    let a = texts(alloc, a.0, a.1)?;
-    let b = texts(alloc, b.0, b.1)?;
-    zip_with(alloc, mask, &a, &b)
-}
-
-fn truth_choice(
-    alloc: Global,
-    mask: &[Option<bool>],
-    b: &[Option<bool>],
-) -> Result<Column, PlanError> {
-    let mask = bools(alloc, mask)?;
-    let b = bools(alloc, b)?;
-    zip_with(alloc, &mask, &mask, &b)
+#[test]
+fn pairs_of_columns_give_their_rows(rt: HostRuntime) {
+    for (op, a, b, want) in PAIRS {
+        assert!(rt; gives(rt.alloc(), Call::Pair(op), a, b, b, want), "{op}");
+    }
 }
 
 #[test]
-fn quotients_round_down_and_are_null_at_zero(rt: HostRuntime) -> Result<(), Fail> {
-    let alloc = rt.alloc();
-    let a = [Some(-128), Some(7), None, Some(-7), Some(7)];
-    let b = [Some(-1), Some(0), Some(1), Some(2), Some(-2)];
-    let quotients = [Some(-128), None, None, Some(-4), Some(-4)];
-    let got = combined(alloc, Operator::FloorDivide, &a, &b);
-    agree(&rt, got, bytes(alloc, &quotients))?;
-    let got = combined(alloc, Operator::Modulus, &a, &b);
-    agree(
-        &rt,
-        got,
-        bytes(alloc, &[Some(0), None, None, Some(1), Some(-1)]),
-    )
+fn the_opposite_of_the_least_is_itself(rt: HostRuntime) {
+    let rows: Rows = (Int8, &[Some(-128), Some(0), None, Some(127)]);
+    let want: Rows = (Int8, &[Some(-128), Some(0), None, Some(-127)]);
+    assert!(rt; gives(rt.alloc(), Call::Negate, rows, rows, rows, Ok(want)));
 }
 
-#[test]
-fn the_opposite_of_the_least_is_itself(rt: HostRuntime) -> Result<(), Fail> {
-    let alloc = rt.alloc();
-    let got = opposites(alloc, &[Some(-128), Some(0), None, Some(127)]);
-    agree(
-        &rt,
-        got,
-        bytes(alloc, &[Some(-128), Some(0), None, Some(-127)]),
-    )
-}
+const MASK: Rows<'static> = (Boolean, &[Some(1), None, Some(0)]);
+
+const MANY: Rows<'static> = (Int8, &[Some(1), Some(2), Some(3)]);
+
+/// A null mask chooses the second, and one row goes with each row, a mask's too; texts, truth values
+/// and nulls are chosen row by row; lengths that do not join are refused.
+const CHOICES: [(Rows<'static>, Rows<'static>, Rows<'static>, Want<'static>); 7] = [
+    (
+        MANY,
+        (Int8, &[Some(9)]),
+        MASK,
+        Ok((Int8, &[Some(1), Some(9), Some(9)])),
+    ),
+    (
+        (Int8, &[Some(9)]),
+        MANY,
+        MASK,
+        Ok((Int8, &[Some(9), Some(2), Some(3)])),
+    ),
+    (C, MANY, (Boolean, &[Some(1)]), Ok(C)),
+    (
+        (String, &[Some(1), None, Some(2)]),
+        (String, &[Some(3), None, Some(4)]),
+        MASK,
+        Ok((String, &[Some(1), None, Some(4)])),
+    ),
+    (
+        MASK,
+        (Boolean, &[Some(0)]),
+        MASK,
+        Ok((Boolean, &[Some(1), Some(0), Some(0)])),
+    ),
+    (
+        (Null, &[None, None, None]),
+        NULL,
+        MASK,
+        Ok((Null, &[None, None, None])),
+    ),
+    (C, D, (Boolean, &[Some(1), Some(1)]), Err("ShapeMismatch")),
+];
 
 #[test]
-fn comparisons_see_nulls(rt: HostRuntime) -> Result<(), Fail> {
-    let alloc = rt.alloc();
-    let a = [Some(1), None, None];
-    let b = [Some(1), None, Some(2)];
-    let same = compared(alloc, Operator::EqValidity, &a, &b);
-    agree(
-        &rt,
-        same,
-        bools(alloc, &[Some(true), Some(true), Some(false)]),
-    )?;
-    let at_most = compared(alloc, Operator::LtEq, &a, &b);
-    agree(&rt, at_most, bools(alloc, &[Some(true), None, None]))
+fn a_mask_chooses_row_by_row(rt: HostRuntime) {
+    let mut i = 0_u32;
+    for (a, b, mask, want) in CHOICES {
+        assert!(rt;
+            gives(rt.alloc(), Call::Choice, a, b, mask, want),
+            "choice {i}"
+        );
+        i = i.saturating_add(1);
+    }
 }
 
-#[test]
-fn texts_are_compared_by_their_bytes(rt: HostRuntime) -> Result<(), Fail> {
-    let alloc = rt.alloc();
-    let got = text_order(alloc, ("a", "é"), ("ab", "z"));
-    agree(&rt, got, bools(alloc, &[Some(true), None, Some(false)]))
-}
+const TENS: Rows<'static> = (Int32, &[Some(10), None, Some(30)]);
+
+const TWOS: Rows<'static> = (Int32, &[Some(2), Some(2), None]);
+
+const ONE: Rows<'static> = (Int32, &[Some(3)]);
+
+const TWO: Rows<'static> = (Int32, &[Some(3), Some(4)]);
+
+/// A form.
+type Fused = (
+    FusedOperator,
+    Rows<'static>,
+    Rows<'static>,
+    Rows<'static>,
+    Want<'static>,
+);
+
+/// The one that is taken into the type, one row in each place, no rows, nulls, and lengths that do not
+/// join.
+const FUSED: [Fused; 14] = [
+    (
+        MultiplyAdd,
+        (Int8, &[Some(100)]),
+        (Int8, &[Some(100)]),
+        (Int8, &[Some(2)]),
+        Ok((Int8, &[Some(44)])),
+    ),
+    (
+        SubMultiply,
+        (Int8, &[Some(-128)]),
+        (Int8, &[Some(64)]),
+        (Int8, &[Some(3)]),
+        Ok((Int8, &[Some(-64)])),
+    ),
+    (
+        MultiplySub,
+        (Int8, &[Some(100)]),
+        (Int8, &[Some(2)]),
+        (Int8, &[Some(100)]),
+        Ok((Int8, &[Some(100)])),
+    ),
+    (
+        SubMultiply,
+        (Int32, &[Some(10), None]),
+        (Int32, &[Some(2), Some(2)]),
+        ONE,
+        Ok((Int32, &[Some(4), None])),
+    ),
+    (
+        MultiplyAdd,
+        TENS,
+        TWOS,
+        TENS,
+        Ok((Int32, &[Some(30), None, None])),
+    ),
+    (
+        SubMultiply,
+        TENS,
+        TENS,
+        TWOS,
+        Ok((Int32, &[Some(-10), None, None])),
+    ),
+    (
+        MultiplySub,
+        TENS,
+        TWOS,
+        TENS,
+        Ok((Int32, &[Some(10), None, None])),
+    ),
+    (
+        MultiplyAdd,
+        ONE,
+        TENS,
+        TWOS,
+        Ok((Int32, &[Some(23), None, None])),
+    ),
+    (
+        MultiplyAdd,
+        ONE,
+        ONE,
+        TWO,
+        Ok((Int32, &[Some(12), Some(15)])),
+    ),
+    (MultiplySub, TWO, ONE, TWO, Ok((Int32, &[Some(6), Some(8)]))),
+    (MultiplySub, ONE, TWO, ONE, Ok((Int32, &[Some(6), Some(9)]))),
+    (
+        MultiplyAdd,
+        (Int32, &[]),
+        (Int32, &[]),
+        ONE,
+        Ok((Int32, &[])),
+    ),
+    (SubMultiply, TWO, TENS, ONE, Err("ShapeMismatch")),
+    (MultiplySub, TENS, TENS, TWO, Err("ShapeMismatch")),
+];
 
 #[test]
-fn false_is_below_true(rt: HostRuntime) -> Result<(), Fail> {
-    let alloc = rt.alloc();
-    let b = [Some(true), Some(true), Some(true)];
-    let got = bool_order(alloc, &[Some(false), Some(true), None], &b);
-    agree(&rt, got, bools(alloc, &[Some(true), Some(false), None]))
-}
-
-#[test]
-fn lengths_that_do_not_join_are_refused(rt: HostRuntime) -> Result<(), Fail> {
-    let alloc = rt.alloc();
-    let got = compared(alloc, Operator::Lt, &[None, None], &[None, None, None]);
-    assert!(rt; matches!(got, Err(PlanError::ShapeMismatch)));
-    let got = combined(alloc, Operator::Plus, &[None, None], &[None, None, None]);
-    assert!(rt; matches!(got, Err(PlanError::ShapeMismatch)));
-    Ok(())
-}
-
-#[test]
-fn a_null_mask_chooses_the_second(rt: HostRuntime) -> Result<(), Fail> {
-    let alloc = rt.alloc();
-    let mask = bools(alloc, &[Some(true), None, Some(false)])?;
-    let got = byte_choice(alloc, &mask, &[Some(1), Some(2), Some(3)], &[Some(9)]);
-    agree(&rt, got, bytes(alloc, &[Some(1), Some(9), Some(9)]))
-}
-
-#[test]
-fn texts_are_chosen_row_by_row(rt: HostRuntime) -> Result<(), Fail> {
-    let alloc = rt.alloc();
-    let mask = bools(alloc, &[Some(true), None, Some(false)])?;
-    agree(
-        &rt,
-        text_choice(alloc, &mask, ("a", "b"), ("c", "d")),
-        texts(alloc, "a", "d"),
-    )
-}
-
-#[test]
-fn truth_values_are_chosen_row_by_row(rt: HostRuntime) -> Result<(), Fail> {
-    let alloc = rt.alloc();
-    let got = truth_choice(alloc, &[Some(true), None, Some(false)], &[Some(false)]);
-    agree(
-        &rt,
-        got,
-        bools(alloc, &[Some(true), Some(false), Some(false)]),
-    )
+fn a_product_and_a_sum_or_a_difference(rt: HostRuntime) {
+    let mut i = 0_u32;
+    for (op, a, b, c, want) in FUSED {
+        assert!(rt;
+            gives(rt.alloc(), Call::Fused(op), a, b, c, want),
+            "form {i}"
+        );
+        i = i.saturating_add(1);
+    }
 }

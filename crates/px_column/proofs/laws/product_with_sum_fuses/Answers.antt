@@ -1,5 +1,5 @@
-use Rattle.px_kernels.proofs.FusedRows.{product_with_sum, product_with_sum_columns}
-use Rattle.px_kernels.proofs.laws.product_with_sum_fuses.Goals as goal
+use Rattle.px_column.proofs.FusedRows.{product_with_sum, product_with_sum_columns}
+use Rattle.px_column.proofs.laws.product_with_sum_fuses.Goals as goal
 
 pub returns-clause-rows : goal.returns-clause-rows
 returns-clause-rows c = product_with_sum

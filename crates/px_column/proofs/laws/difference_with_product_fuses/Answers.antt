@@ -1,5 +1,5 @@
-use Rattle.px_kernels.proofs.FusedRows.{difference_with_product, difference_with_product_columns}
-use Rattle.px_kernels.proofs.laws.difference_with_product_fuses.Goals as goal
+use Rattle.px_column.proofs.FusedRows.{difference_with_product, difference_with_product_columns}
+use Rattle.px_column.proofs.laws.difference_with_product_fuses.Goals as goal
 
 pub returns-clause-rows : goal.returns-clause-rows
 returns-clause-rows c = difference_with_product

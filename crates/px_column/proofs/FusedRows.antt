@@ -6,7 +6,9 @@ use Rattle.std.proofs.lemmas.Simd.{length-zip2}
 use Rattle.px_types.proofs.Wrapping.{into-add_right, into-sub_right, into-sub_left}
 use Rattle.px_types.specs.Arithmetic.{arith_row, arith_rows}
 use Rattle.px_types.specs.Choices.{joined_three}
-use Rattle.px_types.specs.Fused.{FusedForm, MultiplyAdd, SubMultiply, MultiplySub, fused_row, fused_rows, zip3, three_row_by_row}
+use Rattle.px_types.specs.declared.function.FusedOperator.{FusedOperator}
+use Rattle.px_types.specs.declared.function.FusedOperator.TheVariants.{MultiplyAdd, SubMultiply, MultiplySub}
+use Rattle.px_types.specs.Fused.{fused_row, fused_rows, zip3, three_row_by_row}
 use Rattle.px_types.specs.Integers.{into}
 use Rattle.px_types.specs.Rows.{Row, TypedRows, Truth, Text, Integer, joined, stretch, row_by_row}
 use Rattle.px_types.specs.declared.operator.Operator.{Operator}
@@ -14,11 +16,8 @@ use Rattle.px_types.specs.declared.operator.Operator.TheVariants.{Plus, Minus, M
 use Rattle.px_types.specs.declared.value_type.ValueType.{ValueType}
 use Rattle.px_rows.proofs.Joins.{stretch_whole}
 use Rattle.px_column.proofs.LawLemmas.{joined_commutes, joined_associates}
-use Rattle.px_kernels.proofs.ChoiceRows.{joins_to, stretch_long}
-use Rattle.px_kernels.proofs.DividedRows.{option_same}
-use Rattle.px_kernels.proofs.KernelRows.{of_kind}
-use Rattle.px_kernels.proofs.TestRows.{zip2_flip}
-use Rattle.px_kernels.specs.Laws.{HaveOneType}
+use Rattle.px_column.proofs.Joining.{joins_to, stretch_long, option_same, of_kind, zip2_flip}
+use Rattle.px_column.specs.FusedLaws.{HaveOneType}
 
 -- on three rows
 pub sum_with_product : (kind : ValueType) (a b c : Row) → arith_row Plus kind a (arith_row Multiply kind b c) ≡ fused_row MultiplyAdd kind a b c
@@ -130,7 +129,7 @@ module _ (f g : Row → Row → Row) (h : Row → Row → Row → Row) (same : (
       ap (λ k. option_map (λ n. zip2 f (stretch n xs) (stretch n p)) (joined (length xs) k)) (long g ys zs m e) ∙ outer m e (joined (length xs) m) refl
   inner None e = refl
 
-  two_steps : option_and_then (row_by_row f xs) (row_by_row g ys zs) ≡ three_row_by_row h xs ys zs
+  pub two_steps : option_and_then (row_by_row f xs) (row_by_row g ys zs) ≡ three_row_by_row h xs ys zs
   two_steps = inner (joined (length ys) (length zs)) refl
 
 rows_flip : (f : Row → Row → Row) (xs ys : List Row) → row_by_row f xs ys ≡ row_by_row (λ y x. f x y) ys xs
@@ -153,13 +152,13 @@ zip3_turned h (x ∷ xs) (y ∷ ys) (z ∷ zs) = ap (λ l. h x y z ∷ l) (zip3_
 joined_turned : (k m n : ℕ) → joined_three n k m ≡ joined_three k m n
 joined_turned k m n = onward_same (λ l. joined n l) (λ l. joined l n) (λ l. joined_commutes n l) (joined k m) ∙ joined_associates k m n
 
-three_turned : (h : Row → Row → Row → Row) (xs ys zs : List Row) → three_row_by_row (λ z x y. h x y z) zs xs ys ≡ three_row_by_row h xs ys zs
+pub three_turned : (h : Row → Row → Row → Row) (xs ys zs : List Row) → three_row_by_row (λ z x y. h x y z) zs xs ys ≡ three_row_by_row h xs ys zs
 three_turned h xs ys zs =
     option_same (λ n. zip3 (λ z x y. h x y z) (stretch n zs) (stretch n xs) (stretch n ys)) (λ n. zip3 h (stretch n xs) (stretch n ys) (stretch n zs)) (λ n. zip3_turned h (stretch n xs) (stretch n ys) (stretch n zs)) (joined_three (length zs) (length xs) (length ys))
     ∙ ap (option_map (λ n. zip3 h (stretch n xs) (stretch n ys) (stretch n zs))) (joined_turned (length xs) (length ys) (length zs))
 
 -- the product first
-two_steps_left : (f g : Row → Row → Row) (h : Row → Row → Row → Row) → ((x y z : Row) → f (g x y) z ≡ h z x y) → (xs ys zs : List Row)
+pub two_steps_left : (f g : Row → Row → Row) (h : Row → Row → Row → Row) → ((x y z : Row) → f (g x y) z ≡ h z x y) → (xs ys zs : List Row)
     → option_and_then (λ p. row_by_row f p zs) (row_by_row g xs ys) ≡ three_row_by_row h zs xs ys
 two_steps_left f g h same xs ys zs =
     onward_same (λ p. row_by_row f p zs) (row_by_row (λ y x. f x y) zs) (λ p. rows_flip f p zs) (row_by_row g xs ys)
@@ -177,7 +176,7 @@ typed_before o kind c (Some rows) = refl
 typed_before o kind c None = refl
 
 -- a product of the second and the third column
-product_after : (o : Operator) (form : FusedForm) → ((kind : ValueType) (x y z : Row) → arith_row o kind x (arith_row Multiply kind y z) ≡ fused_row form kind x y z)
+product_after : (o : Operator) (form : FusedOperator) → ((kind : ValueType) (x y z : Row) → arith_row o kind x (arith_row Multiply kind y z) ≡ fused_row form kind x y z)
     → (a b c : TypedRows) → HaveOneType a b c → option_and_then (λ p. arith_rows o a p) (arith_rows Multiply b c) ≡ fused_rows form a b c
 unfolding arith_rows fused_rows
 product_after o form same a b c h =

@@ -1,7 +1,8 @@
 -- Laws of fused arithmetic: two steps give what one gives.
 use Rattle.std.specs.Prelude.{◌≡◌, option_and_then}
 use Rattle.px_types.specs.Arithmetic.{arith_row, arith_rows}
-use Rattle.px_types.specs.Fused.{fused_row, fused_rows, MultiplyAdd, SubMultiply, MultiplySub}
+use Rattle.px_types.specs.declared.function.FusedOperator.TheVariants.{MultiplyAdd, SubMultiply, MultiplySub}
+use Rattle.px_types.specs.Fused.{fused_row, fused_rows}
 use Rattle.px_types.specs.Rows.{Row, TypedRows}
 use Rattle.px_types.specs.declared.operator.Operator.TheVariants.{Plus, Minus, Multiply}
 use Rattle.px_types.specs.declared.value_type.ValueType.{ValueType}

@@ -1,0 +1,10 @@
+use Rattle.std.proofs.Common.{◌∙◌, ◌+ℤ◌, ◌*ℤ◌, ap}
+use Rattle.px_types.proofs.Wrapping.{into-add_right}
+use Rattle.px_types.specs.Integers.{into}
+use Rattle.px_kernels.proofs.fusion.PlusProductForm.apply.Goals as goal
+
+pub returns : goal.returns
+returns g c =
+    let n = g.T.Number.number in
+    let kind = g.T.Number.kind in
+    c.plus.ensures ∙ ap (λ t. into kind (n c.args.x +ℤ t)) c.times.ensures ∙ into-add_right kind (n c.args.x) (n c.args.y *ℤ n c.args.z)
