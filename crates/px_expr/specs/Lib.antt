@@ -1,1 +1,4 @@
 pub mod Tree
+pub mod Kernel
+pub mod Plan
+pub mod Options

@@ -5,11 +5,15 @@ mod build;
 mod clone;
 mod context;
 mod expr;
+mod kernel;
 mod literal;
+mod plan;
 #[cfg(test)]
 mod tests;
 
 pub use build::binary_expr;
 pub use context::Context;
-pub use expr::{Expr, ExprList};
-pub use literal::LiteralValue;
+pub use expr::{AggExpr, Excluded, ExcludedList, Expr, ExprList, IndexList, NameList};
+pub use kernel::{ColumnsUdf, KernelList, Kernels};
+pub use literal::{ByteList, LiteralValue};
+pub use plan::{Plan, PlanContext};
