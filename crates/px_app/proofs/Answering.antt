@@ -4,15 +4,15 @@ use Rattle.std.specs.Io.KnownBytes.{Appends}
 use Rattle.serde_json.specs.Data.{Data}
 use Rattle.px_types.specs.declared.value_type.ValueType.{ValueType}
 use Rattle.px_types.specs.Rows.{Contents}
-use Rattle.px_expr.specs.declared.context.Context.TheVariants.{Select}
-use Rattle.px_expr.specs.Tree.{Tree, more, none}
+use Rattle.px_small_expr.specs.declared.context.Context.TheVariants.{Select}
+use Rattle.px_small_expr.specs.Tree.{Tree, more, none}
 use Rattle.px_document.specs.Report.{report, line}
-use Rattle.px_meaning.specs.Schema.{schema_of}
-use Rattle.px_meaning.specs.Check.{Typed, HasKind, IsChecked}
-use Rattle.px_meaning.specs.Mean.{mean}
-use Rattle.px_meaning.specs.Rewrite.{IsRow, Moves, IsNormal}
-use Rattle.px_meaning.proofs.Leads.{Moves-reach}
-use Rattle.px_meaning.proofs.RowLaws.{reached_has_kind, reached_has_mean, reached_is_same}
+use Rattle.px_small_meaning.specs.Schema.{schema_of}
+use Rattle.px_small_meaning.specs.Check.{Typed, HasKind, IsChecked}
+use Rattle.px_small_meaning.specs.Mean.{mean}
+use Rattle.px_small_meaning.specs.Rewrite.{IsRow, Moves, IsNormal}
+use Rattle.px_small_meaning.proofs.Leads.{Moves-reach}
+use Rattle.px_small_meaning.proofs.RowLaws.{reached_has_kind, reached_has_mean, reached_is_same}
 use Rattle.px_app.specs.Small.{Small, only_expression}
 use Rattle.px_app.specs.Selected.{IsAnswer, IsReportOf, IsDue, IsReply}
 

@@ -4,13 +4,13 @@ use Rattle.std.specs.Int.{int_wrap, w32}
 use Rattle.std.proofs.lemmas.Int.{SFits-int_wrap}
 use Rattle.std.proofs.lemmas.Bool.Decides.{nat_tests}
 use Rattle.px_types.specs.declared.value_type.ValueType.TheVariants as kind
-use Rattle.px_expr.specs.declared.context.Context.{Context}
-use Rattle.px_expr.specs.Tree.{Node, Alias, Column, Literal, Binary, Tree, tree, Trees, none, more, fold_trees}
+use Rattle.px_small_expr.specs.declared.context.Context.{Context}
+use Rattle.px_small_expr.specs.Tree.{Node, Alias, Column, Literal, Binary, Tree, tree, Trees, none, more, fold_trees}
 use Rattle.px_document.specs.Look.{is_within}
 use Rattle.px_document.specs.Names.{is_used}
 use Rattle.px_document.specs.Written.{node_has_form, has_form}
-use Rattle.px_meaning.specs.Schema.{Schema}
-use Rattle.px_meaning.specs.Rewrite.{IsRow, C10, StepsTo, at_top, at_input, InputStepsTo, in_first, in_rest, Reaches, stays, goes_on}
+use Rattle.px_small_meaning.specs.Schema.{Schema}
+use Rattle.px_small_meaning.specs.Rewrite.{IsRow, C10, StepsTo, at_top, at_input, InputStepsTo, in_first, in_rest, Reaches, stays, goes_on}
 
 -- each that holds before holds after
 abbrev Kept : List Bool → List Bool → Type 0

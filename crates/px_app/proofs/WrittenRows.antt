@@ -6,11 +6,11 @@ use Rattle.px_types.specs.declared.operator.Operator.TheVariants.{Plus}
 use Rattle.px_types.specs.Arithmetic.{arith_rows}
 use Rattle.px_types.specs.Rows.{Row, TypedRows, Contents}
 use Rattle.px_types.specs.Frames.{column_named}
-use Rattle.px_expr.specs.declared.literal.LiteralValue.TheVariants.{Int32}
-use Rattle.px_expr.specs.Tree.{Node, Alias, Column, Literal, Binary, Tree, tree, Trees, none, more, fold_trees}
+use Rattle.px_small_expr.specs.declared.literal.LiteralValue.TheVariants.{Int32}
+use Rattle.px_small_expr.specs.Tree.{Node, Alias, Column, Literal, Binary, Tree, tree, Trees, none, more, fold_trees}
 use Rattle.px_document.specs.Report.{is_written}
-use Rattle.px_meaning.specs.Schema.{column_at}
-use Rattle.px_meaning.specs.Mean.{binary_rows, with_both, node_rows, rows, mean, name}
+use Rattle.px_small_meaning.specs.Schema.{column_at}
+use Rattle.px_small_meaning.specs.Mean.{binary_rows, with_both, node_rows, rows, mean, name}
 use Rattle.px_app.specs.Writable.{are_written}
 
 -- the rows, where there are any, are of a type that can be written

@@ -4,13 +4,13 @@ use Rattle.serde_json.specs.Data.{Data}
 use Rattle.px_base.specs.declared.error.PlanError.{PlanError}
 use Rattle.px_types.specs.Rows.{Contents}
 use Rattle.px_types.specs.Frames.{IsFrame}
-use Rattle.px_expr.specs.declared.context.Context.TheVariants.{Select}
-use Rattle.px_expr.specs.Tree.{Tree, more, none}
+use Rattle.px_small_expr.specs.declared.context.Context.TheVariants.{Select}
+use Rattle.px_small_expr.specs.Tree.{Tree, more, none}
 use Rattle.px_document.specs.Report.{report, line, error_data}
-use Rattle.px_meaning.specs.Schema.{Fits, schema_of}
-use Rattle.px_meaning.specs.Check.{Typed}
-use Rattle.px_meaning.specs.Mean.{mean, Same}
-use Rattle.px_meaning.specs.Rewrite.{IsRow, Reaches, IsNormal, Moves}
+use Rattle.px_small_meaning.specs.Schema.{Fits, schema_of}
+use Rattle.px_small_meaning.specs.Check.{Typed}
+use Rattle.px_small_meaning.specs.Mean.{mean, Same}
+use Rattle.px_small_meaning.specs.Rewrite.{IsRow, Reaches, IsNormal, Moves}
 use Rattle.px_app.specs.Small.{Small, small_document, checked}
 
 -- The column is what the checked expression means on the document's frame. The tree is reached from the checked

@@ -2,10 +2,10 @@
 use Rattle.std.specs.Prelude.{ℕ, nat_lt, if◌then◌else◌, List, [], ◌∷◌, length, Option, Some, None, option_and_then, Result, Ok, Err}
 use Rattle.px_base.specs.declared.error.PlanError.{PlanError}
 use Rattle.px_types.specs.Rows.{Contents}
-use Rattle.px_expr.specs.Tree.{Tree}
+use Rattle.px_small_expr.specs.Tree.{Tree}
 use Rattle.px_document.specs.Document.{Shown, document_of_bytes}
-use Rattle.px_meaning.specs.Schema.{schema_of}
-use Rattle.px_meaning.specs.Check.{Typed, check}
+use Rattle.px_small_meaning.specs.Schema.{schema_of}
+use Rattle.px_small_meaning.specs.Check.{Typed, check}
 
 -- a frame and one expression over it
 pub record Small : Type 0 where

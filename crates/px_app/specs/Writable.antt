@@ -2,7 +2,7 @@
 use Rattle.std.specs.Prelude.{◌≡◌, Bool, true, List}
 use Rattle.std.specs.List.{list_all}
 use Rattle.px_types.specs.Rows.{Contents}
-use Rattle.px_expr.specs.Tree.{Tree}
+use Rattle.px_small_expr.specs.Tree.{Tree}
 use Rattle.px_document.specs.Report.{is_written}
 use Rattle.px_document.specs.Written.{has_form}
 

@@ -1,8 +1,8 @@
 //! What is due to a document.
 ghost use Rattle.std.specs.Prelude.{◌≡◌, [], ◌∷◌, map, option_map, true, Some, None, IfOk, IfErr, IfSome, IfNone};
-ghost use Rattle.px_expr.specs.Tree.{tree_of};
-ghost use Rattle.px_meaning.specs.Schema.{schema_of};
-ghost use Rattle.px_meaning.specs.Check.{IsChecked};
+ghost use Rattle.px_small_expr.specs.Tree.{tree_of};
+ghost use Rattle.px_small_meaning.specs.Schema.{schema_of};
+ghost use Rattle.px_small_meaning.specs.Check.{IsChecked};
 ghost use Rattle.std.specs.List.{list_all};
 ghost use Rattle.px_document.specs.Written.{has_form};
 ghost use Rattle.px_document.specs.Report.{report, line, error_data, is_written};
@@ -12,8 +12,8 @@ ghost use Rattle.px_app.specs.Writable.{are_written, IsWritable};
 
 use px_column::{Column, Frame};
 use px_document::{Document, document_of_bytes, error_value, line, report_value};
-use px_expr::Expr;
 use px_simplify::{evaluate, kind_of, simplify};
+use px_small_expr::Expr;
 use px_types::{PlanError, Steps};
 use std::alloc::Global;
 use std::sync::ledger::Ledger;

@@ -4,8 +4,8 @@ use Rattle.std.proofs.lemmas.List.{map-append}
 use Rattle.serde_json.specs.Data.{Data}
 use Rattle.serde_json.specs.View.{view}
 use Rattle.serde_json.specs.declared.value.Value.{Value}
-use Rattle.px_expr.specs.Tree.{tree_of}
-use Rattle.px_expr.specs.declared.expr.Expr.{Expr}
+use Rattle.px_small_expr.specs.Tree.{tree_of}
+use Rattle.px_small_expr.specs.declared.expr.Expr.{Expr}
 use Rattle.px_document.specs.Written.{data_of, all_data}
 use Rattle.px_document.proofs.Forms.{one_more}
 

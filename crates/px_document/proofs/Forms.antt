@@ -4,8 +4,8 @@ use Rattle.std.proofs.lemmas.List.{map-append}
 use Rattle.serde_json.specs.Data.{depth, items_depth}
 use Rattle.serde_json.specs.View.{view, items_view}
 use Rattle.serde_json.specs.declared.value.Value.{Value}
-use Rattle.px_expr.specs.Tree.{Tree, tree_of}
-use Rattle.px_expr.specs.declared.expr.Expr.{Expr}
+use Rattle.px_small_expr.specs.Tree.{Tree, tree_of}
+use Rattle.px_small_expr.specs.declared.expr.Expr.{Expr}
 use Rattle.px_document.specs.Form.{expr_of, exprs_of, parts_of, aliased, binary}
 
 depth_within : (vs : List Value) (i : ℕ) (v : Value) → i < length vs → depth (view (get_or vs i v)) ≤ items_depth (items_view vs)

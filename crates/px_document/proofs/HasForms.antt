@@ -6,8 +6,8 @@ use Rattle.serde_json.specs.declared.value.Value.{Value}
 use Rattle.px_base.specs.declared.error.PlanError.{PlanError}
 use Rattle.px_types.specs.declared.value_type.ValueType.TheVariants as kind
 use Rattle.px_types.specs.Rows.{Contents}
-use Rattle.px_expr.specs.declared.literal.LiteralValue.TheVariants as value
-use Rattle.px_expr.specs.Tree.{Node, Tree, tree, none, more}
+use Rattle.px_small_expr.specs.declared.literal.LiteralValue.TheVariants as value
+use Rattle.px_small_expr.specs.Tree.{Node, Tree, tree, none, more}
 use Rattle.px_document.specs.Answer.{ShowsOrMemory}
 use Rattle.px_document.specs.Look.{◌>>=◌, only_if, is_within}
 use Rattle.px_document.specs.Names.{is_used}

@@ -9,9 +9,9 @@ use Rattle.px_document.specs.Answer.{ShowsOrMemory}
 use Rattle.serde_json.specs.Written.{has_float, items_have_float}
 use Rattle.px_base.specs.declared.error.PlanError.{PlanError}
 use Rattle.px_base.specs.declared.error.PlanError.TheVariants.{OutOfMemory, ColumnNotFound, InvalidOperation, Duplicate, ShapeMismatch, InvalidCast, OutOfBounds, TooLong, KernelFailed}
-use Rattle.px_expr.specs.declared.literal.LiteralValue.TheVariants as value
+use Rattle.px_small_expr.specs.declared.literal.LiteralValue.TheVariants as value
 use Rattle.px_types.specs.declared.value_type.ValueType.TheVariants as kind
-use Rattle.px_expr.specs.Tree.{Node, Tree, tree, none, more}
+use Rattle.px_small_expr.specs.Tree.{Node, Tree, tree, none, more}
 use Rattle.px_document.specs.Look.{only_if, if_within}
 use Rattle.px_document.specs.Names.{is_used}
 use Rattle.px_document.specs.Written.{one, typed, alias_data, binary_data, data_of, all_data}

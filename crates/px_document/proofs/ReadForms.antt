@@ -7,10 +7,10 @@ use Rattle.serde_json.specs.Find.{as_str}
 use Rattle.px_base.specs.declared.error.PlanError.{PlanError}
 use Rattle.px_types.specs.declared.value_type.ValueType.{ValueType}
 use Rattle.px_types.specs.declared.value_type.ValueType.TheVariants as kind
-use Rattle.px_expr.specs.declared.expr.Expr.{Expr}
-use Rattle.px_expr.specs.declared.literal.LiteralValue.{LiteralValue}
-use Rattle.px_expr.specs.declared.literal.LiteralValue.TheVariants as value
-use Rattle.px_expr.specs.Tree.{Node, Tree, over, tree_of}
+use Rattle.px_small_expr.specs.declared.expr.Expr.{Expr}
+use Rattle.px_small_expr.specs.declared.literal.LiteralValue.{LiteralValue}
+use Rattle.px_small_expr.specs.declared.literal.LiteralValue.TheVariants as value
+use Rattle.px_small_expr.specs.Tree.{Node, Tree, over, tree_of}
 use Rattle.px_document.specs.declared.document.Document.{Document}
 use Rattle.px_document.specs.declared.form.Form.{Form}
 use Rattle.px_document.specs.declared.form.Form.TheVariants as named

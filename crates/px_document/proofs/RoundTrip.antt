@@ -9,8 +9,8 @@ use Rattle.px_types.specs.declared.operator.Operator.{Operator}
 use Rattle.px_types.specs.declared.operator.Operator.TheVariants.{Eq, EqValidity, NotEq, NotEqValidity, Lt, LtEq, Gt, GtEq, Plus, Minus, Multiply, Divide, TrueDivide, FloorDivide, Modulus, And, Or, Xor, LogicalAnd, LogicalOr}
 use Rattle.px_types.specs.declared.value_type.ValueType.{ValueType}
 use Rattle.px_types.specs.declared.value_type.ValueType.TheVariants as kind
-use Rattle.px_expr.specs.declared.literal.LiteralValue.TheVariants as value
-use Rattle.px_expr.specs.Tree.{Node, Tree, tree, none, more, over}
+use Rattle.px_small_expr.specs.declared.literal.LiteralValue.TheVariants as value
+use Rattle.px_small_expr.specs.Tree.{Node, Tree, tree, none, more, over}
 use Rattle.px_base.specs.declared.error.PlanError.{PlanError}
 use Rattle.px_document.specs.Answer.{ShowsOrMemory}
 use Rattle.px_document.specs.Look.{only_if, is_within, if_within}

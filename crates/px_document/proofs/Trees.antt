@@ -1,6 +1,6 @@
 -- How large trees are.
 use Rattle.std.proofs.Common.{ℕ, suc, List, sum}
-use Rattle.px_expr.specs.Tree.{Node, Tree, fold_tree}
+use Rattle.px_small_expr.specs.Tree.{Node, Tree, fold_tree}
 
 -- how many nodes a tree has
 abbrev pub size_of : Tree → ℕ

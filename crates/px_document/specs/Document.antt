@@ -10,7 +10,7 @@ use Rattle.px_types.specs.Frames.{frame_of}
 use Rattle.px_types.specs.Rows.{Row, Integer, TypedRows, Contents}
 use Rattle.px_types.specs.declared.value_type.ValueType.{ValueType}
 use Rattle.px_types.specs.declared.value_type.ValueType.TheVariants as kind
-use Rattle.px_expr.specs.Tree.{Tree, tree_of}
+use Rattle.px_small_expr.specs.Tree.{Tree, tree_of}
 use Rattle.px_document.specs.declared.document.Document.{Document}
 use Rattle.px_document.specs.Form.{exprs_of}
 use Rattle.px_document.specs.Look.{◌>>=◌, only_if, two_lists, three_fields, number_in, every}

@@ -4,9 +4,9 @@ use Rattle.serde_json.specs.Data.{Data, array, object, Items, no_items, item, Me
 use Rattle.serde_json.specs.Find.{as_str}
 use Rattle.px_types.specs.declared.value_type.ValueType.{ValueType}
 use Rattle.px_types.specs.declared.value_type.ValueType.TheVariants as kind
-use Rattle.px_expr.specs.declared.literal.LiteralValue.{LiteralValue}
-use Rattle.px_expr.specs.declared.literal.LiteralValue.TheVariants as value
-use Rattle.px_expr.specs.Tree.{Node, Tree, over}
+use Rattle.px_small_expr.specs.declared.literal.LiteralValue.{LiteralValue}
+use Rattle.px_small_expr.specs.declared.literal.LiteralValue.TheVariants as value
+use Rattle.px_small_expr.specs.Tree.{Node, Tree, over}
 use Rattle.px_document.specs.Look.{◌>>=◌, only_if, two_fields, number_in}
 use Rattle.px_document.specs.Names.{form_named, kind_named, operator_named, is_used}
 use Rattle.px_document.specs.declared.form.Form.{Form}

@@ -9,7 +9,7 @@ use Rattle.px_base.specs.declared.error.PlanError.TheVariants.{OutOfMemory, Colu
 use Rattle.px_types.specs.Rows.{Row, Truth, Text, Integer, Contents}
 use Rattle.px_types.specs.declared.value_type.ValueType.{ValueType}
 use Rattle.px_types.specs.declared.value_type.ValueType.TheVariants as kind
-use Rattle.px_expr.specs.Tree.{Tree}
+use Rattle.px_small_expr.specs.Tree.{Tree}
 use Rattle.px_document.specs.Look.{◌>>=◌, only_if}
 use Rattle.px_document.specs.Names.{kind_name}
 use Rattle.px_document.specs.Form.{all_of}

@@ -5,9 +5,9 @@ use Rattle.serde_json.specs.Find.{of_integer}
 use Rattle.px_types.specs.declared.operator.Operator.{Operator}
 use Rattle.px_types.specs.declared.value_type.ValueType.{ValueType}
 use Rattle.px_types.specs.declared.value_type.ValueType.TheVariants as kind
-use Rattle.px_expr.specs.declared.literal.LiteralValue.{LiteralValue}
-use Rattle.px_expr.specs.declared.literal.LiteralValue.TheVariants as value
-use Rattle.px_expr.specs.Tree.{Node, Tree, fold_tree}
+use Rattle.px_small_expr.specs.declared.literal.LiteralValue.{LiteralValue}
+use Rattle.px_small_expr.specs.declared.literal.LiteralValue.TheVariants as value
+use Rattle.px_small_expr.specs.Tree.{Node, Tree, fold_tree}
 use Rattle.px_document.specs.Look.{◌>>=◌, only_if, is_within, if_within}
 use Rattle.px_document.specs.Names.{kind_name, operator_name, is_used}
 use Rattle.px_document.specs.Form.{all_of}

@@ -7,7 +7,7 @@ ghost use Rattle.px_document.specs.Written as written;
 ghost use Rattle.px_document.specs.Report as report;
 
 use crate::{kind, operator};
-use px_expr::LiteralValue;
+use px_small_expr::LiteralValue;
 use px_types::{Operator, PlanError, ValueType};
 use serde_json::{Value, json};
 use std::alloc::Global;

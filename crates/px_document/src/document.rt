@@ -3,7 +3,7 @@ ghost use Rattle.std.specs.Prelude.{◌≡◌, map, option_map, IfOk, IfSome, Is
 ghost use Rattle.std.specs.List.{list_all};
 ghost use Rattle.serde_json.specs.View.{view, items_view};
 ghost use Rattle.px_base.specs.Answer.{GivesOrMemory};
-ghost use Rattle.px_expr.specs.Tree.{tree_of};
+ghost use Rattle.px_small_expr.specs.Tree.{tree_of};
 ghost use Rattle.px_document.specs.Answer.{ShowsOrMemory};
 ghost use Rattle.px_document.specs.Document as spec;
 ghost use Rattle.px_document.specs.Document.{shown};
@@ -12,7 +12,7 @@ ghost use Rattle.px_document.specs.Written.{has_form};
 
 use crate::{columns, look, read};
 use px_column::Frame;
-use px_expr::ExprList;
+use px_small_expr::ExprList;
 use px_types::PlanError;
 use serde_json::Value;
 use std::alloc::Global;

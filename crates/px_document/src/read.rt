@@ -2,7 +2,7 @@
 ghost use Rattle.std.specs.Prelude.{◌≡◌, [], map, option_map, IfOk, IfSome, IsTrue};
 ghost use Rattle.serde_json.specs.Find.{as_str};
 ghost use Rattle.serde_json.specs.View.{view, items_view};
-ghost use Rattle.px_expr.specs.Tree.{Node, over, tree_of};
+ghost use Rattle.px_small_expr.specs.Tree.{Node, over, tree_of};
 ghost use Rattle.px_document.specs.Answer.{ShowsOrMemory};
 ghost use Rattle.px_document.specs.Form as form_of;
 ghost use Rattle.px_document.specs.Form.{expr_of, exprs_of, parts_of};
@@ -10,7 +10,7 @@ ghost use Rattle.px_document.specs.Written.{has_form};
 
 use crate::form::{self, Form, Listed};
 use crate::{kind, look, operator};
-use px_expr::{Expr, ExprList, LiteralValue, binary_expr};
+use px_small_expr::{Expr, ExprList, LiteralValue, binary_expr};
 use px_types::{List, PlanError, SmallStr, ValueType};
 use serde_json::Value;
 use std::alloc::Global;

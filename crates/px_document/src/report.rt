@@ -3,7 +3,7 @@ ghost use Rattle.std.specs.Prelude.{◌≡◌, ◌&&◌, map, option_map, is_som
 ghost use Rattle.std.specs.List.{list_all};
 ghost use Rattle.serde_json.specs.View.{view};
 ghost use Rattle.serde_json.specs.Written.{has_float};
-ghost use Rattle.px_expr.specs.Tree.{tree_of};
+ghost use Rattle.px_small_expr.specs.Tree.{tree_of};
 ghost use Rattle.px_document.specs.Answer.{ShowsOrMemory};
 ghost use Rattle.px_document.specs.Report as report;
 ghost use Rattle.px_document.specs.Report.{is_written};
@@ -11,7 +11,7 @@ ghost use Rattle.px_document.specs.Written.{has_form};
 
 use crate::{build, columns, write};
 use px_column::Column;
-use px_expr::Expr;
+use px_small_expr::Expr;
 use px_types::PlanError;
 use serde_json::{Value, json};
 use std::alloc::Global;

@@ -1,13 +1,13 @@
 //! Expressions, written as values.
 ghost use Rattle.std.specs.Prelude.{◌≡◌, map, option_map, is_some, IfOk, IfSome, Some};
 ghost use Rattle.serde_json.specs.View.{view};
-ghost use Rattle.px_expr.specs.Tree.{tree_of};
+ghost use Rattle.px_small_expr.specs.Tree.{tree_of};
 ghost use Rattle.px_document.specs.Answer.{ShowsOrMemory};
 ghost use Rattle.px_document.specs.Form.{expr_of};
 ghost use Rattle.px_document.specs.Written.{data_of, all_data, has_form};
 
 use crate::{build, operator};
-use px_expr::Expr;
+use px_small_expr::Expr;
 use px_types::PlanError;
 use serde_json::Value;
 use std::alloc::Global;

@@ -4,14 +4,14 @@ use Rattle.px_types.specs.declared.operator.Operator.{Operator}
 use Rattle.px_types.specs.declared.operator.Operator.TheVariants.{Plus}
 use Rattle.px_types.specs.declared.value_type.ValueType.TheVariants as kind
 use Rattle.px_types.specs.Integers.{into}
-use Rattle.px_expr.specs.declared.expr.Expr.{Expr}
-use Rattle.px_expr.specs.declared.expr.Expr.TheVariants as expr
-use Rattle.px_expr.specs.declared.context.Context.{Context}
-use Rattle.px_expr.specs.declared.literal.LiteralValue.{LiteralValue}
-use Rattle.px_expr.specs.Tree.{Node, Alias, Column, Literal, Binary, Tree, tree, Trees, over, tree_of}
-use Rattle.px_expr.proofs.TreeOf.{tree_of-Alias, tree_of-Column, tree_of-Literal}
-use Rattle.px_meaning.specs.Schema.{Schema}
-use Rattle.px_meaning.specs.Rewrite.{IsRow, C10, int32}
+use Rattle.px_small_expr.specs.declared.expr.Expr.{Expr}
+use Rattle.px_small_expr.specs.declared.expr.Expr.TheVariants as expr
+use Rattle.px_small_expr.specs.declared.context.Context.{Context}
+use Rattle.px_small_expr.specs.declared.literal.LiteralValue.{LiteralValue}
+use Rattle.px_small_expr.specs.Tree.{Node, Alias, Column, Literal, Binary, Tree, tree, Trees, over, tree_of}
+use Rattle.px_small_expr.proofs.TreeOf.{tree_of-Alias, tree_of-Column, tree_of-Literal}
+use Rattle.px_small_meaning.specs.Schema.{Schema}
+use Rattle.px_small_meaning.specs.Rewrite.{IsRow, C10, int32}
 use Rattle.px_simplify.specs.Simplify.{IsRewrite, IsSettled}
 
 pub sum_folds :

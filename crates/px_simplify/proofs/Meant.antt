@@ -8,12 +8,12 @@ use Rattle.px_types.specs.declared.operator.Operator.{Operator}
 use Rattle.px_types.specs.declared.value_type.ValueType.{ValueType}
 use Rattle.px_types.specs.Rows.{TypedRows, Contents}
 use Rattle.px_types.specs.Frames.{IsFrame, height_of}
-use Rattle.px_expr.specs.Tree.{Binary, Tree, over}
-use Rattle.px_meaning.specs.Schema.{schema_of}
-use Rattle.px_meaning.specs.Check.{IsChecked, binary_kind}
-use Rattle.px_meaning.specs.Mean.{binary_rows, mean, AreRowsOf}
-use Rattle.px_meaning.proofs.Checked.{HasOperandKinds, operand_kinds}
-use Rattle.px_meaning.proofs.Means.{mean-typed, binary_rows-typed}
+use Rattle.px_small_expr.specs.Tree.{Binary, Tree, over}
+use Rattle.px_small_meaning.specs.Schema.{schema_of}
+use Rattle.px_small_meaning.specs.Check.{IsChecked, binary_kind}
+use Rattle.px_small_meaning.specs.Mean.{binary_rows, mean, AreRowsOf}
+use Rattle.px_small_meaning.proofs.Checked.{HasOperandKinds, operand_kinds}
+use Rattle.px_small_meaning.proofs.Means.{mean-typed, binary_rows-typed}
 
 -- a copy of the column that is meant
 pub copy_meant : (r : Result Contents PlanError) (c : Contents) (m : Option Contents) → GivesOrMemory r c → m ≡ Some c → MeansOrMemory r m

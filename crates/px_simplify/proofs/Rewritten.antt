@@ -1,13 +1,13 @@
 -- Rewriting of a tree, one part after the other.
 use Rattle.std.proofs.Common.{◌≡◌, ◌≢◌, ℕ, ◌+◌, ◌-◌, ◌<◌, ◌≤◌, ◌^◌, min, List, [], ◌∷◌, refl, sym, subst, arith}
 use Rattle.px_types.specs.declared.operator.Operator.{Operator}
-use Rattle.px_expr.specs.declared.context.Context.TheVariants.{Select}
-use Rattle.px_expr.specs.Tree.{Alias, Binary, Tree, Trees, none, more, over}
-use Rattle.px_meaning.specs.Rewrite.{IsRow, HasNoRow, Moves, unmoved, moved, weight}
-use Rattle.px_meaning.proofs.Leads.{Moves-join, Moves-reach}
-use Rattle.px_meaning.proofs.Moves.{Moves-row, Moves-first, Moves-rest, Moves-under}
-use Rattle.px_meaning.proofs.Weights.{weights-more, weights-moves}
-use Rattle.px_meaning.proofs.RowLaws.{row_is_lighter}
+use Rattle.px_small_expr.specs.declared.context.Context.TheVariants.{Select}
+use Rattle.px_small_expr.specs.Tree.{Alias, Binary, Tree, Trees, none, more, over}
+use Rattle.px_small_meaning.specs.Rewrite.{IsRow, HasNoRow, Moves, unmoved, moved, weight}
+use Rattle.px_small_meaning.proofs.Leads.{Moves-join, Moves-reach}
+use Rattle.px_small_meaning.proofs.Moves.{Moves-row, Moves-first, Moves-rest, Moves-under}
+use Rattle.px_small_meaning.proofs.Weights.{weights-more, weights-moves}
+use Rattle.px_small_meaning.proofs.RowLaws.{row_is_lighter}
 use Rattle.px_simplify.specs.Simplify.{IsRewrite, IsSettled, IsSimple, MovesTo, LeadsTo, IsRewritten}
 
 pub rewrite_is_lighter : (t u : Tree) → IsRewrite t u → weight u < weight t

@@ -1,9 +1,9 @@
 -- What rewriting a tree by rows that ask nothing of the schema and the context makes of it.
 use Rattle.std.specs.Prelude.{◌≡◌, ℕ, ◌-◌, ◌≤◌, ◌^◌, min}
-use Rattle.px_expr.specs.declared.context.Context.{Context}
-use Rattle.px_expr.specs.Tree.{Tree, none, more}
-use Rattle.px_meaning.specs.Schema.{Schema}
-use Rattle.px_meaning.specs.Rewrite.{IsRow, HasNoRow, IsNormal, Moves, Reaches}
+use Rattle.px_small_expr.specs.declared.context.Context.{Context}
+use Rattle.px_small_expr.specs.Tree.{Tree, none, more}
+use Rattle.px_small_meaning.specs.Schema.{Schema}
+use Rattle.px_small_meaning.specs.Rewrite.{IsRow, HasNoRow, IsNormal, Moves, Reaches}
 
 -- the pair is of a row, under every schema and in every context
 abbrev pub IsRewrite : Tree → Tree → Type 0

@@ -1,11 +1,11 @@
 //! The check of an expression against a schema.
 ghost use Rattle.std.specs.Prelude.{◌≡◌, [], ◌∷◌};
 ghost use Rattle.px_base.specs.Answer.{AnswersOrMemory};
-ghost use Rattle.px_expr.specs.Tree.{Binary, over, tree_of};
-ghost use Rattle.px_meaning.specs.Check.{check, or_fault, literal_kind as kind_of_literal};
-ghost use Rattle.px_meaning.specs.Check.{binary_kind as kind_of_binary, column_kind as kind_of_column};
+ghost use Rattle.px_small_expr.specs.Tree.{Binary, over, tree_of};
+ghost use Rattle.px_small_meaning.specs.Check.{check, or_fault, literal_kind as kind_of_literal};
+ghost use Rattle.px_small_meaning.specs.Check.{binary_kind as kind_of_binary, column_kind as kind_of_column};
 
-use px_expr::{Expr, LiteralValue};
+use px_small_expr::{Expr, LiteralValue};
 use px_types::{Boxed, Operator, PlanError, Schema, SmallStr, ValueType};
 use std::alloc::Global;
 

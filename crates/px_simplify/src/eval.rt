@@ -2,17 +2,17 @@
 ghost use Rattle.std.specs.Prelude.{◌≡◌, [], ◌∷◌, codes, Some, IsSome, IfOk, IfErr, option_map};
 ghost use Rattle.px_base.specs.Answer.{GivesOrMemory};
 ghost use Rattle.px_types.specs.Frames.{IsFrame};
-ghost use Rattle.px_expr.specs.Tree.{Alias, Binary, over, tree_of};
-ghost use Rattle.px_expr.specs.Tree.{Column as column_node};
-ghost use Rattle.px_meaning.specs.Schema.{schema_of};
-ghost use Rattle.px_meaning.specs.Check.{IsChecked, binary_kind};
-ghost use Rattle.px_meaning.specs.Mean.{literal_rows, binary_rows, mean};
+ghost use Rattle.px_small_expr.specs.Tree.{Alias, Binary, over, tree_of};
+ghost use Rattle.px_small_expr.specs.Tree.{Column as column_node};
+ghost use Rattle.px_small_meaning.specs.Schema.{schema_of};
+ghost use Rattle.px_small_meaning.specs.Check.{IsChecked, binary_kind};
+ghost use Rattle.px_small_meaning.specs.Mean.{literal_rows, binary_rows, mean};
 ghost use Rattle.px_simplify.specs.Means.{MeansOrMemory};
 
 use px_column::{Buffer, Column, Frame};
-use px_expr::{Expr, LiteralValue};
 use px_kernels::arith;
 use px_rows::NumbersBuilder;
+use px_small_expr::{Expr, LiteralValue};
 use px_types::{Boxed, Operator, PlanError, SmallStr};
 use std::alloc::Global;
 

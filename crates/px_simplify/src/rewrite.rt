@@ -3,11 +3,11 @@ ghost use Rattle.std.specs.Prelude.{◌≡◌, ◌≢◌, ◌-◌, ◌^◌, ◌�
 ghost use Rattle.std.specs.Prelude.{IsTrue, IfOk, IfErr, OnOk, MatchOption};
 ghost use Rattle.px_types.specs.declared.value_type.ValueType.TheVariants as kind;
 ghost use Rattle.px_types.specs.Integers.{into};
-ghost use Rattle.px_expr.specs.Tree.{Alias, Binary, Literal, over, tree_of};
-ghost use Rattle.px_meaning.specs.Rewrite.{int32};
+ghost use Rattle.px_small_expr.specs.Tree.{Alias, Binary, Literal, over, tree_of};
+ghost use Rattle.px_small_meaning.specs.Rewrite.{int32};
 ghost use Rattle.px_simplify.specs.Simplify.{IsRewrite, IsSettled, IsSimple, MovesTo, LeadsTo, IsRewritten};
 
-use px_expr::{Expr, LiteralValue};
+use px_small_expr::{Expr, LiteralValue};
 use px_types::{Boxed, Operator, PlanError, SmallStr, Steps, boxed};
 use std::alloc::Global;
 use std::sync::ledger::Ledger;

@@ -2,8 +2,8 @@ ghost use Rattle.std.specs.Prelude.{◌≡◌, ◌<◌};
 
 use crate::{evaluate, kind_of, simplify};
 use px_column::{Buffer, Column, ColumnList, Frame};
-use px_expr::{Expr, LiteralValue, binary_expr};
 use px_rows::NumbersBuilder;
+use px_small_expr::{Expr, LiteralValue, binary_expr};
 use px_types::{Operator, PlanError, SmallStr, Steps, ValueType};
 use std::alloc::Global;
 use std::marker::Brand;

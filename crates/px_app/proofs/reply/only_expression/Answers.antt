@@ -1,6 +1,6 @@
 use Rattle.std.proofs.Common.{sym, arith, length, ◌≢◌, map}
 use Rattle.std.proofs.lemmas.List.{length-map}
-use Rattle.px_expr.specs.Tree.{tree_of}
+use Rattle.px_small_expr.specs.Tree.{tree_of}
 use Rattle.px_app.proofs.Answering.{not_only}
 use Rattle.px_app.proofs.reply.only_expression.Goals as goal
 

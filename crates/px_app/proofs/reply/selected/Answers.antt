@@ -1,8 +1,8 @@
 use Rattle.std.proofs.Common.{◌-◌}
 use Rattle.std.proofs.lemmas.Result.{IfOk-weaker}
-use Rattle.px_expr.specs.Tree.{tree_of}
-use Rattle.px_expr.specs.declared.context.Context.TheVariants.{Select}
-use Rattle.px_meaning.specs.Schema.{schema_of}
+use Rattle.px_small_expr.specs.Tree.{tree_of}
+use Rattle.px_small_expr.specs.declared.context.Context.TheVariants.{Select}
+use Rattle.px_small_meaning.specs.Schema.{schema_of}
 use Rattle.px_app.specs.Small.{Small}
 use Rattle.px_app.proofs.Answering.{moved_is_checked, reported}
 use Rattle.px_app.proofs.Forms.{reached_has_form}

@@ -1,6 +1,6 @@
 use Rattle.std.proofs.Common.{◌≡◌, ◌++◌, map, option_map, drop}
 use Rattle.serde_json.specs.View.{items_view}
-use Rattle.px_expr.specs.Tree.{tree_of}
+use Rattle.px_small_expr.specs.Tree.{tree_of}
 use Rattle.px_document.specs.Form.{exprs_of}
 use Rattle.px_document.proofs.read.exprs_of_values.Given as goal
 

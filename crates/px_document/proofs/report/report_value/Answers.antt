@@ -1,5 +1,5 @@
 use Rattle.std.proofs.Common.{map}
-use Rattle.px_expr.specs.Tree.{tree_of}
+use Rattle.px_small_expr.specs.Tree.{tree_of}
 use Rattle.px_document.proofs.HasForms.{reported_where}
 use Rattle.px_document.proofs.NoFloats.{plain_report_value}
 use Rattle.px_document.proofs.report.report_value.Goals as goal

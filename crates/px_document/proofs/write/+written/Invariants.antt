@@ -1,4 +1,4 @@
-use Rattle.px_expr.specs.Tree.{tree_of}
+use Rattle.px_small_expr.specs.Tree.{tree_of}
 use Rattle.px_document.proofs.Trees.{size_of}
 use Rattle.px_document.proofs.write.+written.Given as goal
 

@@ -1,4 +1,4 @@
-use Rattle.px_expr.specs.Tree.{tree_of}
+use Rattle.px_small_expr.specs.Tree.{tree_of}
 use Rattle.px_document.proofs.HasForms.{written_where}
 use Rattle.px_document.proofs.RoundTrip.{written_again}
 use Rattle.px_document.proofs.write.value_of_expr.Goals as goal

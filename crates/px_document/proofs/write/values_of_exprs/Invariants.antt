@@ -1,6 +1,6 @@
 use Rattle.std.proofs.Common.{◌≡◌, ◌++◌, map, option_map, drop}
 use Rattle.serde_json.specs.View.{view}
-use Rattle.px_expr.specs.Tree.{tree_of}
+use Rattle.px_small_expr.specs.Tree.{tree_of}
 use Rattle.px_document.specs.Written.{all_data}
 use Rattle.px_document.proofs.write.values_of_exprs.Given as goal
 

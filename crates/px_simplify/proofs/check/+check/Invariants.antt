@@ -1,5 +1,5 @@
 use Rattle.std.proofs.Common.{◌+◌, ◌*◌, max}
-use Rattle.px_expr.specs.declared.expr.Expr.{size-Expr}
+use Rattle.px_small_expr.specs.declared.expr.Expr.{size-Expr}
 use Rattle.px_simplify.proofs.check.+check.Given as goal
 
 abbrev pub decreases-kind_of : goal.decreases-kind_of

@@ -1,9 +1,9 @@
 use Rattle.std.proofs.Common.{◌≡◌, ◌+◌, ◌*◌, ◌<◌, max, Some, ap, sym, subst, arith}
-use Rattle.px_expr.specs.declared.expr.Expr.{Expr, size-Expr}
-use Rattle.px_expr.specs.Tree.{tree_of}
-use Rattle.px_meaning.specs.Schema.{schema_of}
-use Rattle.px_meaning.specs.Check.{IsChecked}
-use Rattle.px_meaning.specs.Mean.{mean}
+use Rattle.px_small_expr.specs.declared.expr.Expr.{Expr, size-Expr}
+use Rattle.px_small_expr.specs.Tree.{tree_of}
+use Rattle.px_small_meaning.specs.Schema.{schema_of}
+use Rattle.px_small_meaning.specs.Check.{IsChecked}
+use Rattle.px_small_meaning.specs.Mean.{mean}
 use Rattle.px_simplify.proofs.Meant.{left_checked, right_checked, operands_fit, operands_join}
 use Rattle.px_simplify.proofs.eval.+evaluate.Goals as goal
 

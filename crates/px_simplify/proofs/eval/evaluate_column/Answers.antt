@@ -1,6 +1,6 @@
 use Rattle.std.proofs.Common.{◌≡◌, ℕ, List, Some, None, sym, subst}
 use Rattle.px_types.specs.Frames.{column_named}
-use Rattle.px_meaning.proofs.Means.{mean-column, column-found}
+use Rattle.px_small_meaning.proofs.Means.{mean-column, column-found}
 use Rattle.px_simplify.proofs.Meant.{copy_meant}
 use Rattle.px_simplify.proofs.eval.evaluate_column.Goals as goal
 

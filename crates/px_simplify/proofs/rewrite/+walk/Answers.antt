@@ -1,9 +1,9 @@
 use Rattle.std.proofs.Common.{◌≡◌, ℕ, ◌+◌, ◌*◌, ◌<◌, ◌≤◌, ◌∷◌, [], refl, sym, ◌∙◌, ap, subst, arith}
 use Rattle.std.specs.Result.{IfOk}
-use Rattle.px_expr.specs.declared.expr.Expr.{Expr}
-use Rattle.px_expr.specs.Tree.{Tree, Alias, Binary, over, tree_of}
-use Rattle.px_expr.proofs.TreeOf.{tree_of-Alias, tree_of-BinaryExpr}
-use Rattle.px_meaning.specs.Rewrite.{weight}
+use Rattle.px_small_expr.specs.declared.expr.Expr.{Expr}
+use Rattle.px_small_expr.specs.Tree.{Tree, Alias, Binary, over, tree_of}
+use Rattle.px_small_expr.proofs.TreeOf.{tree_of-Alias, tree_of-BinaryExpr}
+use Rattle.px_small_meaning.specs.Rewrite.{weight}
 use Rattle.px_simplify.specs.Simplify.{IsSettled, IsSimple, IsRewritten}
 use Rattle.px_simplify.proofs.Rewritten.{rewritten-none, rewritten-join, rewritten-weight, rewritten-alias, rewritten-binary, simple-alias, simple-binary}
 use Rattle.px_simplify.proofs.rewrite.+walk.Goals as goal

@@ -1,6 +1,6 @@
 use Rattle.std.proofs.Common.{◌+◌, ◌*◌}
-use Rattle.px_expr.specs.Tree.{tree_of}
-use Rattle.px_meaning.specs.Rewrite.{weight}
+use Rattle.px_small_expr.specs.Tree.{tree_of}
+use Rattle.px_small_meaning.specs.Rewrite.{weight}
 use Rattle.px_simplify.proofs.rewrite.+walk.Given as goal
 
 abbrev pub decreases-walk : goal.decreases-walk

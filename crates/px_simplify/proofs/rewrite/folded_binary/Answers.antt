@@ -3,7 +3,7 @@ use mir.Val.{SFits}
 use Rattle.std.proofs.lemmas.Int.{to_z-of_z}
 use Rattle.px_types.specs.declared.value_type.ValueType.TheVariants as kind
 use Rattle.px_types.specs.Integers.{into}
-use Rattle.px_expr.specs.Tree.{tree_of}
+use Rattle.px_small_expr.specs.Tree.{tree_of}
 use Rattle.px_simplify.proofs.Folded.{sum_folds}
 use Rattle.px_simplify.proofs.rewrite.folded_binary.Goals as goal
 

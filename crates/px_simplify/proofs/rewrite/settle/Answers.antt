@@ -1,9 +1,9 @@
 use Rattle.std.proofs.Common.{[], sym, subst, arith}
-use Rattle.px_expr.proofs.TreeOf.{tree_of-Literal}
-use Rattle.px_expr.specs.Tree.{Literal, over, tree_of}
-use Rattle.px_expr.specs.declared.expr.Expr.{Expr}
-use Rattle.px_expr.specs.declared.expr.Expr.TheVariants as expr
-use Rattle.px_expr.specs.declared.literal.LiteralValue.{LiteralValue}
+use Rattle.px_small_expr.proofs.TreeOf.{tree_of-Literal}
+use Rattle.px_small_expr.specs.Tree.{Literal, over, tree_of}
+use Rattle.px_small_expr.specs.declared.expr.Expr.{Expr}
+use Rattle.px_small_expr.specs.declared.expr.Expr.TheVariants as expr
+use Rattle.px_small_expr.specs.declared.literal.LiteralValue.{LiteralValue}
 use Rattle.px_simplify.specs.Simplify.{IsRewrite}
 use Rattle.px_simplify.proofs.Rewritten.{rewrite_is_lighter, rewritten-none, rewritten-one, rewritten-join}
 use Rattle.px_simplify.proofs.rewrite.settle.Goals as goal

@@ -1,5 +1,5 @@
-use Rattle.px_expr.specs.Tree.{tree_of}
-use Rattle.px_meaning.specs.Rewrite.{weight}
+use Rattle.px_small_expr.specs.Tree.{tree_of}
+use Rattle.px_small_meaning.specs.Rewrite.{weight}
 use Rattle.px_simplify.specs.Simplify.{IsRewritten}
 use Rattle.px_simplify.proofs.rewrite.settle.Given as goal
 

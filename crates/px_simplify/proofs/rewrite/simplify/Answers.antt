@@ -1,5 +1,5 @@
 use Rattle.std.proofs.Common.{◌-◌, arith}
-use Rattle.px_expr.specs.Tree.{tree_of}
+use Rattle.px_small_expr.specs.Tree.{tree_of}
 use Rattle.px_simplify.proofs.Rewritten.{rewritten-none, rewritten-join, rewritten-lighter, leads-moves}
 use Rattle.px_simplify.proofs.rewrite.simplify.Goals as goal
 

@@ -1,0 +1,4 @@
+pub mod Schema
+pub mod Mean
+pub mod Check
+pub mod Rewrite
