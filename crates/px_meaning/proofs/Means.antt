@@ -1,35 +1,44 @@
--- A checked tree means rows of its type on every fitting frame.
-use Rattle.std.proofs.Common.{All, ◌≡◌, ◌≢◌, ◌⊎◌, inl, inr, ℕ, ◌+ℤ◌, List, [], ◌∷◌, length, get_or, true, false, cond, Bool, Option, Some, None, option_map, Ok, Err, nat_eq, refl, sym, ◌∙◌, ap, subst, arith}
-use Rattle.std.specs.Option.{IsSomeAnd}
+-- A checked tree that means something on a fitting frame means a column of its type.
+use Rattle.std.proofs.Common.{All, ◌≡◌, ◌&&◌, ℕ, List, [], ◌∷◌, map, Option, Some, None, Bool, true, false, cond, refl, sym, ◌∙◌, ap, subst}
+use Rattle.std.specs.Prelude.{option_map, option_and_then, not}
+use Rattle.std.specs.Cmp.{both_ways}
 use Rattle.std.specs.Str.{bytes_eq}
-use Rattle.std.specs.Simd.Lanes.{zip2}
-use Rattle.std.proofs.lemmas.Bool.Decides.{nat_tests}
-use Rattle.std.proofs.lemmas.List.{length-replicate}
 use Rattle.std.proofs.lemmas.List.Elements.{All-head, All-tail}
-use Rattle.std.proofs.lemmas.Simd.{length-zip2}
-use Rattle.px_base.specs.declared.error.PlanError.TheVariants.{ColumnNotFound, InvalidOperation}
+use Rattle.std.proofs.lemmas.Slice.Eq.{bytes_eq-Decides}
+use Rattle.px_types.proofs.CommonTypes.{value_type_of-dtype_of}
+use Rattle.px_types.specs.Arithmetic.{arith_row, arith_rows, negate_rows}
+use Rattle.px_types.specs.Casts.{cast_to, cast_rows}
+use Rattle.px_types.specs.Comparisons.{compare_row, compare_rows}
+use Rattle.px_types.specs.Choices.{choose_rows}
+use Rattle.px_types.specs.Classes.{is_integer_value, is_number, is_unsigned_value}
+use Rattle.px_types.specs.Frames.{column_named}
+use Rattle.px_types.specs.Fused.{fused_row, fused_rows}
+use Rattle.px_types.specs.Logic.{logic_row, logic_rows, inverse_row, null_row, value_row}
+use Rattle.px_types.specs.Rows.{TypedRows, Contents}
+use Rattle.px_types.specs.Schemas.{dtype_at}
+use Rattle.px_types.specs.ValueTypes.{dtype_of, value_type_of}
+use Rattle.px_types.specs.declared.dtype.DataType.{DataType}
+use Rattle.px_types.specs.declared.kinds.CastOptions.{CastOptions}
+use Rattle.px_types.specs.declared.function.BooleanFunction.TheVariants.{IsNull, IsNotNull, Not}
+use Rattle.px_types.specs.declared.function.FunctionExpr.{FunctionExpr}
+use Rattle.px_types.specs.declared.function.FunctionExpr.TheVariants as function
 use Rattle.px_types.specs.declared.operator.Operator.{Operator}
-use Rattle.px_types.specs.declared.operator.Operator.TheVariants.{Plus}
 use Rattle.px_types.specs.declared.value_type.ValueType.{ValueType}
 use Rattle.px_types.specs.declared.value_type.ValueType.TheVariants as kind
-use Rattle.px_types.specs.Arithmetic.{arith_rows}
-use Rattle.px_types.specs.Rows.{Row, TypedRows, Contents, lift, joined, stretch, row_by_row}
-use Rattle.px_types.specs.Integers.{into}
-use Rattle.px_types.specs.declared.dtype.DataType.{DataType}
-use Rattle.px_types.specs.ValueTypes.{dtype_of, value_type_of}
-use Rattle.px_types.specs.Schemas.{dtype_at}
-use Rattle.px_types.proofs.CommonTypes.{value_type_of-dtype_of}
-use Rattle.px_types.specs.Frames.{IsFrame, height_of, column_named}
-use Rattle.std.specs.Cmp.{both_ways}
-use Rattle.std.proofs.lemmas.Slice.Eq.{bytes_eq-Decides}
 use Rattle.px_expr.specs.declared.literal.LiteralValue.{LiteralValue}
-use Rattle.px_expr.specs.declared.literal.LiteralValue.TheVariants.{Int32}
-use Rattle.px_expr.specs.Tree.{Node, Alias, Column, Literal, Binary, Tree, tree, Trees, none, more, over, fold_trees}
-use Rattle.px_meaning.specs.Schema.{Schema, column_at, schema_of, Fits}
-use Rattle.px_meaning.proofs.Heights.{HasHeight, IsFrame-HasHeight}
-use Rattle.px_meaning.specs.Check.{then_, gathered, binary_kind, or_fault, column_kind, node_kind, kind_node, kind_of, HasKind}
-use Rattle.px_meaning.specs.Mean.{binary_rows, node_rows, rows, name, mean, AreRowsOf}
-use Rattle.px_meaning.proofs.Checked.{from_option, then_-parts, kind_of-HasKind}
+use Rattle.px_expr.specs.Tree.{Node, Alias, Column, Literal, Binary, Cast, Ternary, Function, Tree, Trees, fold_trees}
+use Rattle.px_types.specs.Columns.{IsColumn, is_column}
+use Rattle.px_meaning.specs.Mean.{group_rows, binary_rows, of_one, of_three, function_rows, own_rows, all_of, node_rows, rows}
+use Rattle.px_meaning.specs.Schema.{schema_of, Fits}
+use Rattle.px_expr.specs.Plan.{Catalog}
+use Rattle.px_meaning.specs.Signatures.{Known, Signature, Group, Arithmetic, Comparison, Bitwise, Logical, Fractional, group_of, group_type, literal_type, cast_type}
+use Rattle.px_meaning.proofs.Answers.{given-parts}
+use Rattle.px_meaning.proofs.ColumnTypes.{IsColumnOf, joined_rows-typed, map-column, three-column, choose_rows-typed, cast_rows-typed}
+use Rattle.px_types.proofs.ColumnLemmas.{is_column-column}
+use Rattle.px_meaning.proofs.RowTypes.{arith_row-typed, compare_row-typed, logic_row-typed, negate_row-typed, inverse_row-typed, null_row-typed, value_row-typed, fused_row-typed, cast_row-typed}
+use Rattle.px_meaning.proofs.Shapes.{and_then-parts, map-parts}
+use Rattle.px_meaning.proofs.Types.{Takes, alias-types, literal-types, binary-types, cast-types, not-types, is_null-types, is_not_null-types, negate-types, fused-types, ternary-types}
+use Rattle.px_meaning.proofs.Typing.{Has, HaveAll, has, have_none, have_more, column-parts}
 
 bytes_eq-comm : (xs ys : List ℕ) → bytes_eq xs ys ≡ bytes_eq ys xs
 bytes_eq-comm xs ys =
@@ -50,7 +59,7 @@ dtype_at-column_named (c ∷ cs) name = go (bytes_eq c.name name) (bytes_eq name
     go true false e h = cc
     go false true e h = cc
 
-column_named-all : (P : Contents → Type 0) (frame : List Contents) (name : List ℕ) (c : Contents) → All P frame → column_named frame name ≡ Some c → P c
+pub column_named-all : (P : Contents → Type 0) (frame : List Contents) (name : List ℕ) (c : Contents) → All P frame → column_named frame name ≡ Some c → P c
 column_named-all P [] name c all e = cc
 column_named-all P (d ∷ ds) name c all e = go (bytes_eq d.name name) (λ f. column_named-all P ds name c (All-tail P d ds all) f) e
   where
@@ -58,228 +67,201 @@ column_named-all P (d ∷ ds) name c all e = go (bytes_eq d.name name) (λ f. co
     go true rest f = let same : d ≡ c = cc in subst P same (All-head P d ds all)
     go false rest f = rest f
 
--- the first column of the name has the type that the schema gives, and the frame's height
-column_at-typed :
-    (frame : List Contents) (height : ℕ) (name : List ℕ) (k : ValueType) → HasHeight frame height → column_kind (schema_of frame) name ≡ Ok k →
-    IsSomeAnd (column_at frame name) (AreRowsOf k height)
-column_at-typed frame height name k tall e =
-    go (column_named frame name) refl (subst (λ (o : Option DataType). then_ (or_fault (ColumnNotFound name) o) (λ dtype. or_fault InvalidOperation (value_type_of dtype)) ≡ Ok k) (dtype_at-column_named frame name) e)
+-- columns of these types
+pub data AreColumns : List ValueType → List TypedRows → Type 0 where
+  no_columns : AreColumns [] []
+  columns : {k : ValueType} {ks : List ValueType} {a : TypedRows} {as' : List TypedRows} → IsColumnOf k a → AreColumns ks as' → AreColumns (k ∷ ks) (a ∷ as')
+
+pub one_column : (k : ValueType) (ks : List ValueType) (vs : List TypedRows) → ks ≡ k ∷ [] → AreColumns ks vs → (a : TypedRows) × (vs ≡ a ∷ []) × IsColumnOf k a
+one_column k ks vs e h = go ks vs e h
+  where
+    go : (ks : List ValueType) (vs : List TypedRows) → ks ≡ k ∷ [] → AreColumns ks vs → (a : TypedRows) × (vs ≡ a ∷ []) × IsColumnOf k a
+    go _ _ e no_columns = cc
+    go _ _ e (columns {k = j} {a} h no_columns) = let same : j ≡ k = cc in (a, refl, subst (λ (z : ValueType). IsColumnOf z a) same h)
+    go _ _ e (columns h (columns i all)) = cc
+
+pub two_columns :
+    (j k : ValueType) (ks : List ValueType) (vs : List TypedRows) → ks ≡ j ∷ k ∷ [] → AreColumns ks vs → (a : TypedRows) × (b : TypedRows) × (vs ≡ a ∷ b ∷ []) × IsColumnOf j a × IsColumnOf k b
+two_columns j k ks vs e h = go ks vs e h
+  where
+    go : (ks : List ValueType) (vs : List TypedRows) → ks ≡ j ∷ k ∷ [] → AreColumns ks vs → (a : TypedRows) × (b : TypedRows) × (vs ≡ a ∷ b ∷ []) × IsColumnOf j a × IsColumnOf k b
+    go _ _ e no_columns = cc
+    go _ _ e (columns {k = i} {ks} {a} {as' = bs} h all) =
+        let first : i ≡ j = cc in
+        let rest : ks ≡ k ∷ [] = cc in
+        let (b, f, g) = one_column k ks bs rest all in
+        (a, b, ap (λ (z : List TypedRows). a ∷ z) f, subst (λ (z : ValueType). IsColumnOf z a) first h, g)
+
+pub three_columns :
+    (i j k : ValueType) (ks : List ValueType) (vs : List TypedRows) → ks ≡ i ∷ j ∷ k ∷ [] → AreColumns ks vs →
+    (a : TypedRows) × (b : TypedRows) × (d : TypedRows) × (vs ≡ a ∷ b ∷ d ∷ []) × IsColumnOf i a × IsColumnOf j b × IsColumnOf k d
+three_columns i j k ks vs e h = go ks vs e h
   where
     go :
-        (o : Option Contents) → column_named frame name ≡ o →
-        then_ (or_fault (ColumnNotFound name) (option_map (λ (c : Contents). dtype_of c.values.kind) o)) (λ dtype. or_fault InvalidOperation (value_type_of dtype)) ≡ Ok k →
-        IsSomeAnd (option_map (λ (c : Contents). c.values) o) (AreRowsOf k height)
-    go None h f = cc
-    go (Some c) h f =
-        let g : value_type_of (dtype_of c.values.kind) ≡ Some k = from_option InvalidOperation (value_type_of (dtype_of c.values.kind)) k f in
-        let same : c.values.kind ≡ k = cc (value_type_of-dtype_of c.values.kind) in
-        record { typed = same; tall = inr (column_named-all (λ (c : Contents). length c.values.rows ≡ height) frame name c tall h) }
+        (ks : List ValueType) (vs : List TypedRows) → ks ≡ i ∷ j ∷ k ∷ [] → AreColumns ks vs →
+        (a : TypedRows) × (b : TypedRows) × (d : TypedRows) × (vs ≡ a ∷ b ∷ d ∷ []) × IsColumnOf i a × IsColumnOf j b × IsColumnOf k d
+    go _ _ e no_columns = cc
+    go _ _ e (columns {k = l} {ks} {a} {as' = bs} h all) =
+        let first : l ≡ i = cc in
+        let rest : ks ≡ j ∷ k ∷ [] = cc in
+        let (b, d, f, g, m) = two_columns j k ks bs rest all in
+        (a, b, d, ap (λ (z : List TypedRows). a ∷ z) f, subst (λ (z : ValueType). IsColumnOf z a) first h, g, m)
 
--- the test of two numbers
-tested : (m n : ℕ) → ((nat_eq m n ≡ true) × (m ≡ n)) ⊎ ((nat_eq m n ≡ false) × (m ≢ n))
-tested m n = go (nat_eq m n) refl
-  where
-    go : (b : Bool) → nat_eq m n ≡ b → ((nat_eq m n ≡ true) × (m ≡ n)) ⊎ ((nat_eq m n ≡ false) × (m ≢ n))
-    go true e = inl (e, grind (arith, nat_tests))
-    go false e = inr (e, grind (arith, nat_tests))
+no_column : (ks : List ValueType) (vs : List TypedRows) → ks ≡ [] → AreColumns ks vs → vs ≡ []
+no_column _ _ e no_columns = refl
+no_column _ _ e (columns h all) = cc
 
--- a length that is one or the height joins with another such length to one of them
-record Join (m n height : ℕ) : Type 0 where
-  length : ℕ
-  joins : joined m n ≡ Some length
-  left : (m ≡ 1) ⊎ (m ≡ length)
-  right : (n ≡ 1) ⊎ (n ≡ length)
-  tall : (length ≡ 1) ⊎ (length ≡ height)
+-- the kind of what is made of a column by its own kind
+at_kind : (k : ValueType) (a : TypedRows) (f : ValueType → TypedRows) → a.kind ≡ k → IsColumnOf k (f k) → IsColumnOf k (f a.kind)
+at_kind k a f e h = subst (λ (j : ValueType). IsColumnOf k (f j)) (sym e) h
 
-joined-tall : (m n height : ℕ) → (m ≡ 1) ⊎ (m ≡ height) → (n ≡ 1) ⊎ (n ≡ height) → Join m n height
-joined-tall m n height h k = same (tested m n)
-  where
-    right_one : nat_eq m n ≡ false → nat_eq m 1 ≡ false → m ≢ 1 → ((nat_eq n 1 ≡ true) × (n ≡ 1)) ⊎ ((nat_eq n 1 ≡ false) × (n ≢ 1)) → m ≢ n → Join m n height
-    right_one e f other (inl (g, one)) apart = record { length = m; joins = rw (e, f, g) refl; left = inr refl; right = inl one; tall = h }
-    right_one e f other (inr (g, two)) apart = absurd (both h k)
-      where
-        both : (m ≡ 1) ⊎ (m ≡ height) → (n ≡ 1) ⊎ (n ≡ height) → ⊥
-        both (inl a) b = other a
-        both (inr a) (inl b) = two b
-        both (inr a) (inr b) = apart (a ∙ sym b)
+module _ (j : ValueType) (a b v : TypedRows) (ha : IsColumnOf j a) (hb : IsColumnOf j b) where
+  arith-typed : (o : Operator) → is_integer_value j ≡ true → arith_rows o a b ≡ Some v → IsColumnOf j v
+  unfolding arith_rows
+  arith-typed o i e = subst (λ (k : ValueType). IsColumnOf k v) ha.kind
+      (joined_rows-typed a.kind a.kind a.kind (arith_row o a.kind) (arith_row-typed o a.kind (subst (λ (k : ValueType). is_integer_value k ≡ true) (sym ha.kind) i)) a b v
+      (record { kind = refl; column = ha.column }) (record { kind = hb.kind ∙ sym ha.kind; column = hb.column }) e)
 
-    left_one : nat_eq m n ≡ false → m ≢ n → ((nat_eq m 1 ≡ true) × (m ≡ 1)) ⊎ ((nat_eq m 1 ≡ false) × (m ≢ 1)) → Join m n height
-    left_one e apart (inl (f, one)) = record { length = n; joins = rw (e, f) refl; left = inl one; right = inr refl; tall = k }
-    left_one e apart (inr (f, other)) = right_one e f other (tested n 1) apart
+  compare-typed : (o : Operator) → compare_rows o a b ≡ Some v → IsColumnOf kind.Boolean v
+  unfolding compare_rows
+  compare-typed o e = joined_rows-typed j j kind.Boolean (compare_row o) (λ x y p q. compare_row-typed o x y) a b v ha hb e
 
-    same : ((nat_eq m n ≡ true) × (m ≡ n)) ⊎ ((nat_eq m n ≡ false) × (m ≢ n)) → Join m n height
-    same (inl (e, one)) = record { length = m; joins = rw e refl; left = inr refl; right = inr (sym one); tall = h }
-    same (inr (e, apart)) = left_one e apart (tested m 1)
+  logic-typed : (o : Operator) → logic_rows o a b ≡ Some v → IsColumnOf j v
+  unfolding logic_rows
+  logic-typed o e = subst (λ (k : ValueType). IsColumnOf k v) ha.kind
+      (joined_rows-typed a.kind a.kind a.kind (logic_row o a.kind) (logic_row-typed o a.kind) a b v
+      (record { kind = refl; column = ha.column }) (record { kind = hb.kind ∙ sym ha.kind; column = hb.column }) e)
 
-length-stretch : (n : ℕ) (xs : List Row) → (length xs ≡ 1) ⊎ (length xs ≡ n) → length (stretch n xs) ≡ n
-length-stretch n xs h = go (tested (length xs) 1) h
-  where
-    go : ((nat_eq (length xs) 1 ≡ true) × (length xs ≡ 1)) ⊎ ((nat_eq (length xs) 1 ≡ false) × (length xs ≢ 1)) → (length xs ≡ 1) ⊎ (length xs ≡ n) → length (stretch n xs) ≡ n
-    go (inl (e, one)) k = rw e (length-replicate n (get_or xs 0 None))
-    go (inr (e, other)) (inl one) = absurd (other one)
-    go (inr (e, other)) (inr whole) = rw e whole
+  -- an operator of a group on two columns of a type gives a column of the group's type
+  pub group-typed : (g : Group) (o : Operator) (k : ValueType) → group_type g j ≡ Some k → group_rows g o a b ≡ Some v → IsColumnOf k v
+  group-typed Arithmetic o k t e = let (i, same) = given-parts (is_integer_value j) j k t in subst (λ (z : ValueType). IsColumnOf z v) same (arith-typed o i e)
+  group-typed Comparison o k t e = let same : kind.Boolean ≡ k = cc in subst (λ (z : ValueType). IsColumnOf z v) same (compare-typed o e)
+  group-typed Bitwise o k t e = let (i, same) = given-parts (is_number j) j k t in subst (λ (z : ValueType). IsColumnOf z v) same (logic-typed o e)
+  group-typed Logical o k t e = let (i, same) = given-parts _ j k t in subst (λ (z : ValueType). IsColumnOf z v) same (logic-typed o e)
+  group-typed Fractional o k t e = cc
 
-abbrev IsTall : ℕ → List Row → Type 0
-IsTall height rows = (length rows ≡ 1) ⊎ (length rows ≡ height)
+cast_to-typed : (dtype : DataType) (options : CastOptions) (j k : ValueType) (a v : TypedRows) → value_type_of dtype ≡ Some k → IsColumnOf j a → cast_to options dtype a ≡ Some v → IsColumnOf k v
+cast_to-typed dtype options j k a v t ha e =
+    cast_rows-typed options j k (cast_row-typed options k) a v ha (sym (ap (option_and_then (λ l. cast_rows options l a)) t) ∙ e)
 
--- columns of one row or of the height meet row by row
-row_by_row-tall : (f : Row → Row → Row) (xs ys : List Row) (height : ℕ) → IsTall height xs → IsTall height ys → IsSomeAnd (row_by_row f xs ys) (IsTall height)
-row_by_row-tall f xs ys height h k =
-    let j = joined-tall (length xs) (length ys) height h k in
-    let left : length (stretch j.length xs) ≡ j.length = length-stretch j.length xs j.left in
-    let right : length (stretch j.length ys) ≡ j.length = length-stretch j.length ys j.right in
-    let long : length (zip2 f (stretch j.length xs) (stretch j.length ys)) ≡ j.length =
-    length-zip2 f (stretch j.length xs) (stretch j.length ys) (left ∙ sym right) ∙ left in
-    subst (λ (z : Option ℕ). IsSomeAnd (option_map (λ n. zip2 f (stretch n xs) (stretch n ys)) z) (IsTall height)) (sym j.joins)
-    (subst (λ (n : ℕ). (n ≡ 1) ⊎ (n ≡ height)) (sym long) j.tall)
+pub cast-target : (o : Option ValueType) (j k : ValueType) → cast_type o j ≡ Some k → o ≡ Some k
+cast-target (Some to) j k e = let (test, same) = given-parts _ to k e in ap Some same
+cast-target None j k e = cc
 
--- a sum of two columns of one type is one of that type
-plus-typed :
-    (k : ValueType) (height : ℕ) (a b : TypedRows) → AreRowsOf k height a → AreRowsOf k height b → IsSomeAnd (arith_rows Plus a b) (AreRowsOf k height)
-unfolding arith_rows
-plus-typed k height a b ha hb =
-    go (row_by_row (lift (λ x y. into a.kind (x +ℤ y))) a.rows b.rows) (row_by_row-tall (lift (λ x y. into a.kind (x +ℤ y))) a.rows b.rows height ha.tall hb.tall)
-  where
-    go : (o : Option (List Row)) → IsSomeAnd o (IsTall height) → IsSomeAnd (option_map (λ rows. record { kind = a.kind; rows = rows }) o) (AreRowsOf k height)
-    go (Some rs) tall = record { typed = ha.typed; tall = tall }
-    go None h = absurd h
-
--- each of the rows that the inputs mean is of the type in its place
-abbrev AllRowsOf : ℕ → List ValueType → List (Option TypedRows) → Type 0
-AllRowsOf height [] [] = Unit {0}
-AllRowsOf height (k ∷ ks) (m ∷ ms) = IsSomeAnd m (AreRowsOf k height) × AllRowsOf height ks ms
-AllRowsOf height [] (m ∷ ms) = ⊥
-AllRowsOf height (k ∷ ks) [] = ⊥
-
-pub binary_rows-typed :
-    (op : Operator) (j k l : ValueType) (height : ℕ) (a b : TypedRows) → binary_kind op j k ≡ Some l → AreRowsOf j height a → AreRowsOf k height b →
-    IsSomeAnd (binary_rows op a b) (AreRowsOf l height)
-binary_rows-typed Plus kind.Int32 kind.Int32 l height a b e ha hb =
-    let same : kind.Int32 ≡ l = cc in
-    subst (λ (z : ValueType). IsSomeAnd (arith_rows Plus a b) (AreRowsOf z height)) same (plus-typed kind.Int32 height a b ha hb)
-binary_rows-typed _ _ _ l height a b e ha hb = cc
-
--- one input means rows of its type
-record One (height : ℕ) (k : ValueType) (ms : List (Option TypedRows)) : Type 0 where
-  first : TypedRows
-  are : ms ≡ Some first ∷ []
-  typed : AreRowsOf k height first
-
-one_input : (height : ℕ) (k : ValueType) (ms : List (Option TypedRows)) → AllRowsOf height (k ∷ []) ms → One height k ms
-one_input height k [] all = absurd all
-one_input height k (None ∷ ms) (a, all) = absurd a
-one_input height k (Some a ∷ []) (h, all) = record { first = a; are = refl; typed = h }
-one_input height k (Some a ∷ (m ∷ ms)) (h, all) = absurd all
-
--- two inputs mean rows of their types
-record Two (height : ℕ) (j k : ValueType) (ms : List (Option TypedRows)) : Type 0 where
-  first : TypedRows
-  second : TypedRows
-  are : ms ≡ Some first ∷ Some second ∷ []
-  first_typed : AreRowsOf j height first
-  second_typed : AreRowsOf k height second
-
-two_inputs : (height : ℕ) (j k : ValueType) (ms : List (Option TypedRows)) → AllRowsOf height (j ∷ k ∷ []) ms → Two height j k ms
-two_inputs height j k [] all = absurd all
-two_inputs height j k (None ∷ ms) (a, all) = absurd a
-two_inputs height j k (Some a ∷ ms) (h, all) =
-    let rest = one_input height k ms all in
-    record { first = a; second = rest.first; are = ap (λ (z : List (Option TypedRows)). Some a ∷ z) rest.are; first_typed = h; second_typed = rest.typed }
-
-module _ (frame : List Contents) (height : ℕ) (tall : HasHeight frame height) where
-  -- the rows of a node over inputs of types that the node takes are of the node's type
+module _ (c : Catalog) (frame : List Contents) (fits : Fits frame c.schema) where
+  -- what a node means over columns of types that it takes is a column of its type
   abbrev IsTypedNode : Node → Type 0
   IsTypedNode n =
-      (ks : List ValueType) (ms : List (Option TypedRows)) (k : ValueType) → node_kind (schema_of frame) n ks ≡ Ok k → AllRowsOf height ks ms →
-      IsSomeAnd (node_rows frame n ms) (AreRowsOf k height)
+      (ks : List ValueType) (k : ValueType) (vs : List TypedRows) (v : TypedRows) → Takes c n ks k → AreColumns ks vs → own_rows c.kernels frame n vs ≡ Some v → IsColumnOf k v
 
-  column-typed : (name : List ℕ) → IsTypedNode (Column name)
-  column-typed name [] [] k e all = column_at-typed frame height name k tall e
-  column-typed name [] (m ∷ ms) k e all = absurd all
-  column-typed name (j ∷ js) ms k e all = cc
+  column-typed : (m : List ℕ) → IsTypedNode (Column m)
+  column-typed m ks k vs v t h e =
+      let p = column-parts c m (map Known ks) (record { inputs = ks; result = k }) t in
+      let (d, f, g) = map-parts (column_named frame m) (λ (x : Contents). x.values) v e in
+      let at : dtype_at c.schema m ≡ Some (dtype_of d.values.kind) =
+      subst (λ (s : _). dtype_at s m ≡ Some (dtype_of d.values.kind)) fits.same (dtype_at-column_named frame m ∙ ap (option_map (λ (x : Contents). dtype_of x.values.kind)) f) in
+      let dtypes : dtype_of d.values.kind ≡ p.dtype = some_is (sym at ∙ p.at) in
+      let kinds : d.values.kind ≡ p.kind = some_is (sym (value_type_of-dtype_of d.values.kind) ∙ ap value_type_of dtypes ∙ p.of) in
+      let result : k ≡ p.kind = ap (λ (s : Signature). s.result) p.whole in
+      let whole : IsColumn d.values = column_named-all (λ (x : Contents). IsColumn x.values) frame m d fits.frame.columns f in
+      subst (IsColumnOf k) g (record { kind = kinds ∙ sym result; column = whole })
+    where
+      some_is : {A : Type 0} {x y : A} → Some x ≡ Some y → x ≡ y
+      some_is e = cc
 
-  literal-typed : (value : LiteralValue) → IsTypedNode (Literal value)
-  literal-typed (Int32 z) [] [] k e all = record { typed = cc; tall = inl refl }
-  literal-typed (Int32 z) [] (m ∷ ms) k e all = absurd all
-  literal-typed (Int32 z) (j ∷ js) ms k e all = cc
+  literal-typed : (w : LiteralValue) → IsTypedNode (Literal w)
+  literal-typed w ks k vs v t h e =
+      let (f, g) = literal-types c w ks k t in
+      let i : literal_type (Some v) ≡ Some k = sym (ap literal_type e) ∙ g in
+      let (test, same) = given-parts (is_column v) v.kind k i in
+      record { kind = same; column = is_column-column v test }
 
-  alias-typed : (name : List ℕ) → IsTypedNode (Alias name)
-  alias-typed name [] ms k e all = cc
-  alias-typed name (j ∷ []) ms k e all =
-      let one = one_input height j ms all in
-      let same : j ≡ k = cc in
-      subst (λ (z : List (Option TypedRows)). IsSomeAnd (node_rows frame (Alias name) z) (AreRowsOf k height)) (sym one.are)
-      (subst (λ (z : ValueType). AreRowsOf z height one.first) same one.typed)
-  alias-typed name (i ∷ (j ∷ js)) ms k e all = cc
+  alias-typed : (m : List ℕ) → IsTypedNode (Alias m)
+  alias-typed m ks k vs v t h e =
+      let (a, f, ha) = one_column k ks vs (alias-types c m ks k t) h in
+      let same : Some a ≡ Some v = sym (ap (of_one Some) f) ∙ e in
+      let is : a ≡ v = cc in
+      subst (IsColumnOf k) is ha
 
-  binary-typed : (op : Operator) → IsTypedNode (Binary op)
-  binary-typed op [] ms k e all = cc
-  binary-typed op (i ∷ []) ms k e all = cc
-  binary-typed op (i ∷ (j ∷ [])) ms k e all =
-      let two = two_inputs height i j ms all in
-      subst (λ (z : List (Option TypedRows)). IsSomeAnd (node_rows frame (Binary op) z) (AreRowsOf k height)) (sym two.are)
-      (binary_rows-typed op i j k height two.first two.second (from_option InvalidOperation (binary_kind op i j) k e) two.first_typed two.second_typed)
-  binary-typed op (i ∷ (j ∷ (l ∷ ls))) ms k e all = cc
+  binary-typed : (o : Operator) → IsTypedNode (Binary o)
+  binary-typed o ks k vs v t h e =
+      let (j, f, g) = binary-types c o ks k t in
+      let (a, b, i, ha, hb) = two_columns j j ks vs f h in
+      group-typed j a b v ha hb (group_of o) o k g (sym (ap (binary_rows o) i) ∙ e)
 
-  node-typed : (n : Node) → IsTypedNode n
-  node-typed (Column name) = column-typed name
-  node-typed (Literal value) = literal-typed value
-  node-typed (Alias name) = alias-typed name
-  node-typed (Binary op) = binary-typed op
+  cast-typed : (dtype : DataType) (options : CastOptions) → IsTypedNode (Cast dtype options)
+  cast-typed dtype options ks k vs v t h e =
+      let (j, f, g) = cast-types c dtype options ks k t in
+      let (a, i, ha) = one_column j ks vs f h in
+      cast_to-typed dtype options j k a v (cast-target (value_type_of dtype) j k g) ha (sym (ap (of_one (cast_to options dtype)) i) ∙ e)
+
+  ternary-typed : IsTypedNode Ternary
+  ternary-typed ks k vs v t h e =
+      let (m, a, b, f, hm, ha, hb) = three_columns kind.Boolean k k ks vs (ternary-types c ks k t) h in
+      choose_rows-typed k m a b v hm ha hb (sym (ap (of_three choose_rows) f) ∙ e)
+
+  function-typed : (f : FunctionExpr) → IsTypedNode (Function f)
+  unfolding fused_rows
+  function-typed (function.Boolean IsNull) ks k vs v t h e =
+      let (j, f, g) = is_null-types c ks k t in
+      let (a, i, ha) = one_column j ks vs f h in
+      let made : TypedRows = record { kind = kind.Boolean; rows = map null_row a.rows } in
+      let same : Some made ≡ Some v = sym (ap (function_rows (function.Boolean IsNull)) i) ∙ e in
+      let is : made ≡ v = cc in
+      subst (IsColumnOf k) is (subst (λ (z : ValueType). IsColumnOf z made) (sym g) (map-column j kind.Boolean null_row (λ r p. null_row-typed r) a ha))
+  function-typed (function.Boolean IsNotNull) ks k vs v t h e =
+      let (j, f, g) = is_not_null-types c ks k t in
+      let (a, i, ha) = one_column j ks vs f h in
+      let made : TypedRows = record { kind = kind.Boolean; rows = map value_row a.rows } in
+      let same : Some made ≡ Some v = sym (ap (function_rows (function.Boolean IsNotNull)) i) ∙ e in
+      let is : made ≡ v = cc in
+      subst (IsColumnOf k) is (subst (λ (z : ValueType). IsColumnOf z made) (sym g) (map-column j kind.Boolean value_row (λ r p. value_row-typed r) a ha))
+  function-typed (function.Boolean Not) ks k vs v t h e =
+      let (f, g) = not-types c ks k t in
+      let (a, i, ha) = one_column k ks vs f h in
+      let made : ValueType → TypedRows = λ j. record { kind = j; rows = map (inverse_row j) a.rows } in
+      let same : Some (made a.kind) ≡ Some v = sym (ap (function_rows (function.Boolean Not)) i) ∙ e in
+      let is : made a.kind ≡ v = cc in
+      subst (IsColumnOf k) is (at_kind k a made ha.kind (map-column k k (inverse_row k) (inverse_row-typed k) a ha))
+  function-typed function.Negate ks k vs v t h e =
+      let (f, g) = negate-types c ks k t in
+      let (a, i, ha) = one_column k ks vs f h in
+      let same : Some (negate_rows a) ≡ Some v = sym (ap (function_rows function.Negate) i) ∙ e in
+      let is : negate_rows a ≡ v = cc in
+      let integer : is_integer_value a.kind ≡ true = subst (λ (z : ValueType). is_integer_value z ≡ true) (sym ha.kind) (first_true (is_integer_value k) (not (is_unsigned_value k)) g) in
+      subst (IsColumnOf k) is (subst (λ (z : ValueType). IsColumnOf z (negate_rows a)) ha.kind
+      (map-column a.kind a.kind _ (negate_row-typed a.kind integer) a (record { kind = refl; column = ha.column })))
+    where
+      first_true : (p q : Bool) → (p && q) ≡ true → p ≡ true
+      first_true true q e = refl
+      first_true false q e = cc
+  function-typed (function.Fused o) ks k vs v t h e =
+      let (f, g) = fused-types c o ks k t in
+      let (x, y, z, i, hx, hy, hz) = three_columns k k k ks vs f h in
+      let integer : is_integer_value x.kind ≡ true = subst (λ (l : ValueType). is_integer_value l ≡ true) (sym hx.kind) g in
+      subst (λ (l : ValueType). IsColumnOf l v) hx.kind
+      (three-column k k k x.kind (fused_row o x.kind) (λ r s w. fused_row-typed o x.kind integer r s w) x y z v hx hy hz (sym (ap (function_rows (function.Fused o)) i) ∙ e))
+
+  pub own-typed : (n : Node) → IsTypedNode n
+  own-typed (Alias m) = alias-typed m
+  own-typed (Column m) = column-typed m
+  own-typed (Literal w) = literal-typed w
+  own-typed (Binary o) = binary-typed o
+  own-typed (Cast dtype options) = cast-typed dtype options
+  own-typed Ternary = ternary-typed
+  own-typed (Function f) = function-typed f
+  own-typed _ = λ ks k vs v t h e. cc
 
   mutual
-    rows-kind : (t : Tree) (k : ValueType) → kind_of (schema_of frame) t ≡ Ok k → IsSomeAnd (rows frame t) (AreRowsOf k height)
-    rows-kind (tree n us) k e =
-        let (ks, f, g) = then_-parts (gathered (fold_trees (kind_node (schema_of frame)) us)) (node_kind (schema_of frame) n) k e in
-        node-typed n ks (fold_trees (node_rows frame) us) k g (all_rows-kinds us ks f)
+    -- a checked tree that means something means a column of its type
+    pub rows-typed : (t : Tree) (k : ValueType) → Has c t k → (v : TypedRows) → rows c.kernels frame t ≡ Some v → IsColumnOf k v
+    rows-typed _ k (has {n} {us} {ks} free all takes) v e =
+        let (vs, f, g) = and_then-parts (all_of (fold_trees (node_rows c.kernels frame) us)) (own_rows c.kernels frame n) v e in
+        own-typed n ks k vs v takes (all-typed us ks all vs f) g
 
-    all_rows-kinds :
-        (us : Trees) (ks : List ValueType) → gathered (fold_trees (kind_node (schema_of frame)) us) ≡ Ok ks → AllRowsOf height ks (fold_trees (node_rows frame) us)
-    all_rows-kinds none ks e = let same : [] ≡ ks = cc in subst (λ (z : List ValueType). AllRowsOf height z []) same tt
-    all_rows-kinds (more u us) ks e =
-        let (j, f, g) = then_-parts (kind_of (schema_of frame) u) (λ a. then_ (gathered (fold_trees (kind_node (schema_of frame)) us)) (λ as'. Ok (a ∷ as'))) ks e in
-        let (js, h, i) = then_-parts (gathered (fold_trees (kind_node (schema_of frame)) us)) (λ as'. Ok (j ∷ as')) ks g in
-        let same : j ∷ js ≡ ks = cc in
-        subst (λ (z : List ValueType). AllRowsOf height z (fold_trees (node_rows frame) (more u us))) same (rows-kind u j f, all_rows-kinds us js h)
-
--- a checked tree means rows of its type on every fitting frame
-pub rows-typed :
-    (s : Schema) (t : Tree) (k : ValueType) (frame : List Contents) → HasKind s t k → Fits frame s → IsFrame frame →
-    IsSomeAnd (rows frame t) (AreRowsOf k (height_of frame))
-rows-typed s t k frame h fits even =
-    rows-kind frame (height_of frame) (IsFrame-HasHeight frame even) t k (subst (λ (z : Schema). kind_of z t ≡ Ok k) (sym fits) (kind_of-HasKind s t k h))
-
--- the column that a checked tree means has the tree's type, and one row or as many as the frame has
-pub mean-typed :
-    (t : Tree) (k : ValueType) (frame : List Contents) (c : Contents) → HasKind (schema_of frame) t k → IsFrame frame → mean frame t ≡ Some c →
-    AreRowsOf k (height_of frame) c.values
-mean-typed t k frame c h even e = go (rows frame t) (rows-typed (schema_of frame) t k frame h refl even) e
-  where
-    go :
-        (o : Option TypedRows) → IsSomeAnd o (AreRowsOf k (height_of frame)) → option_map (λ (values : TypedRows). record { name = name t; values = values }) o ≡ Some c →
-        AreRowsOf k (height_of frame) c.values
-    go (Some values) typed f = let same : record { name = name t; values = values } ≡ c = cc in subst (λ (d : Contents). AreRowsOf k (height_of frame) d.values) same typed
-    go None h f = absurd h
-
--- the first column of a name has the name
-column_named-name : (frame : List Contents) (name : List ℕ) (c : Contents) → column_named frame name ≡ Some c → c.name ≡ name
-column_named-name [] name c e = cc
-column_named-name (d ∷ ds) name c e = go (bytes_eq d.name name) (λ h. (bytes_eq-Decides d.name name).0 h) (λ f. column_named-name ds name c f) e
-  where
-    go : (b : Bool) → (b ≡ true → d.name ≡ name) → (column_named ds name ≡ Some c → c.name ≡ name) → cond b (Some d) (column_named ds name) ≡ Some c → c.name ≡ name
-    go true same rest f = let whole : d ≡ c = cc in sym (ap (λ (x : Contents). x.name) whole) ∙ same refl
-    go false same rest f = rest f
-
--- a column's name means the first column of the name
-pub mean-column : (frame : List Contents) (n : List ℕ) (c : Contents) → column_named frame n ≡ Some c → mean frame (over (Column n) []) ≡ Some c
-mean-column frame n c e =
-    ap (λ (o : Option Contents). option_map (λ (values : TypedRows). record { name = n; values = values }) (option_map (λ (d : Contents). d.values) o)) e
-    ∙ ap (λ (m : List ℕ). Some (record { name = m; values = c.values })) (sym (column_named-name frame n c e))
-
--- a checked name is that of a column
-pub column-found : (frame : List Contents) (n : List ℕ) (k : ValueType) → HasKind (schema_of frame) (over (Column n) []) k → column_named frame n ≡ None → ⊥
-column-found frame n k h absent =
-    let e : column_kind (schema_of frame) n ≡ Ok k = kind_of-HasKind (schema_of frame) (over (Column n) []) k h in
-    let f : dtype_at (schema_of frame) n ≡ None = dtype_at-column_named frame n ∙ ap (option_map (λ (c : Contents). dtype_of c.values.kind)) absent in
-    let g : Err (ColumnNotFound n) ≡ Ok k = subst (λ (o : Option DataType). then_ (or_fault (ColumnNotFound n) o) (λ dtype. or_fault InvalidOperation (value_type_of dtype)) ≡ Ok k) f e in
-    cc
+    pub all-typed : (us : Trees) (ks : List ValueType) → HaveAll c us ks → (vs : List TypedRows) → all_of (fold_trees (node_rows c.kernels frame) us) ≡ Some vs → AreColumns ks vs
+    all-typed _ _ have_none vs e = let same : [] ≡ vs = cc in subst (AreColumns []) same no_columns
+    all-typed _ _ (have_more {u} {us} {k} {ks} h all) vs e =
+        let (v, f, g) = and_then-parts (rows c.kernels frame u) (λ a. option_map (λ as'. a ∷ as') (all_of (fold_trees (node_rows c.kernels frame) us))) vs e in
+        let (ws, i, j) = map-parts (all_of (fold_trees (node_rows c.kernels frame) us)) (λ as'. v ∷ as') vs g in
+        subst (AreColumns (k ∷ ks)) j (columns (rows-typed u k h v f) (all-typed us ks all ws i))

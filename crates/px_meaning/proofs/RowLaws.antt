@@ -1,76 +1,173 @@
--- What each row keeps of the tree that it replaces, and what steps by rows keep of the tree around.
-use Rattle.std.proofs.Common.{◌≡◌, ℕ, ◌<◌, ◌≤◌, List, Option, Some, None, refl, ◌∙◌, ap, subst, arith}
-use Rattle.std.specs.Option.{option_map}
-use Rattle.px_types.specs.declared.value_type.ValueType.{ValueType}
-use Rattle.px_types.specs.Arithmetic.{arith_rows}
-use Rattle.px_types.specs.Rows.{TypedRows, Contents}
-use Rattle.px_expr.specs.declared.context.Context.{Context}
-use Rattle.px_expr.specs.declared.context.Context.TheVariants.{Select, Filter}
-use Rattle.px_expr.specs.Tree.{Tree}
-use Rattle.px_meaning.specs.Schema.{Schema}
-use Rattle.px_meaning.specs.Check.{HasKind}
-use Rattle.px_meaning.specs.Mean.{node_rows, rows, node_name, name, mean, Same}
-use Rattle.px_meaning.specs.Rewrite.{IsRow, C10, StepsTo, Reaches, weight}
-use Rattle.px_meaning.proofs.Around.{fold_tree-step, fold_tree-reaches}
-use Rattle.px_meaning.proofs.Checked.{kind_of-HasKind, HasKind-kind_of, HasKind-step, HasKind-reaches}
-use Rattle.px_meaning.proofs.Weights.{weight-step, weight-reaches}
+-- Laws of row functions and of what is done row by row, which the rewrites rest on.
+use Rattle.std.proofs.Common.{◌≡◌, inl, inr, ℕ, zero, suc, List, [], ◌∷◌, map, length, replicate, get_or, Option, Some, None, Bool, true, false, not, refl, sym, ◌∙◌, ap, subst, arith}
+use Rattle.std.specs.Prelude.{option_map}
+use Rattle.std.specs.Simd.Lanes.{Each1, zip2}
+use Rattle.std.proofs.lemmas.List.{length-map}
+use Rattle.px_types.specs.Comparisons.{compare_row, test_row, less, equal}
+use Rattle.px_types.specs.Logic.{truth_row, not_row, null_row, value_row}
+use Rattle.px_types.specs.Rows.{Datum, Truth, Text, Integer, Row, IsRowOf, joined, stretch, row_by_row}
+use Rattle.px_types.specs.declared.operator.Operator.TheVariants as op
+use Rattle.px_types.specs.declared.value_type.ValueType.TheVariants as kind
+use Rattle.px_column.proofs.LawLemmas.{by_eq}
+use Rattle.px_rows.proofs.Joins.{rows_same, rows_left, rows_right, stretch_one, stretch_other}
 
--- columns of the same values are the same, and in a select their names must be so too
-same_values :
-    (c : Context) (m n : List ℕ) (o : Option TypedRows) → (c ≡ Select → m ≡ n) →
-    Same c (option_map (λ (values : TypedRows). record { name = m; values = values }) o) (option_map (λ (values : TypedRows). record { name = n; values = values }) o)
-same_values Select m n None names = tt
-same_values Filter m n None names = tt
-same_values Select m n (Some values) names = ap (λ (z : List ℕ). record { name = z; values = values }) (names refl)
-same_values Filter m n (Some values) names = refl
+map-fixed : (P : Row → Type 0) (f : Row → Row) → ((r : Row) → P r → f r ≡ r) → (rows : List Row) → Each1 P rows → map f rows ≡ rows
+map-fixed P f h [] p = refl
+map-fixed P f h (r ∷ rows) p = let here = h r p.0 in let rest = map-fixed P f h rows p.1 in cc
 
-module _ (s : Schema) (c : Context) where
-  pub row_keeps_kind : (t u : Tree) → IsRow s c t u → (k : ValueType) → HasKind s t k → HasKind s u k
-  row_keeps_kind t u (C10 x y) k h = HasKind-kind_of s u k (kind_of-HasKind s t k h)
+-- one row on the left that changes nothing
+pub left_unit : (P : Row → Type 0) (f : Row → Row → Row) (e : Row) → ((r : Row) → P r → f e r ≡ r) → (rows : List Row) → Each1 P rows → row_by_row f (e ∷ []) rows ≡ Some rows
+left_unit P f e h rows p = rows_left f (e ∷ []) rows refl ∙ ap Some (map-fixed P (f e) h rows p)
 
-  pub row_keeps_rows : (frame : List Contents) (t u : Tree) → IsRow s c t u → rows frame t ≡ rows frame u
-  unfolding arith_rows
-  row_keeps_rows frame _ _ (C10 x y) = refl
+-- one row on the right that changes nothing
+pub right_unit : (P : Row → Type 0) (f : Row → Row → Row) (e : Row) → ((r : Row) → P r → f r e ≡ r) → (rows : List Row) → Each1 P rows → row_by_row f rows (e ∷ []) ≡ Some rows
+right_unit P f e h rows p = elim (by_eq (length rows) 1) [
+  | inl one ↦ rows_same f rows (e ∷ []) one ∙ ap Some (single rows one p)
+  | inr other ↦ rows_right f rows (e ∷ []) other other refl ∙ ap Some (map-fixed P (λ r. f r e) h rows p)
+]
+  where
+    single : (rows : List Row) → length rows ≡ 1 → Each1 P rows → zip2 f rows (e ∷ []) ≡ rows
+    single [] one p = cc
+    single (r ∷ []) one p = ap (λ x. x ∷ []) (h r p.0)
+    single (r ∷ (s ∷ rows)) one p = absurd (omega arith)
 
-  pub row_keeps_name : (t u : Tree) → IsRow s c t u → name t ≡ name u
-  row_keeps_name _ _ (C10 x y) = refl
+pub and-true : (r : Row) → IsRowOf kind.Boolean r → truth_row op.And r (Some (Truth true)) ≡ r
+and-true None h = refl
+and-true (Some (Truth true)) h = refl
+and-true (Some (Truth false)) h = refl
+and-true (Some (Text b)) h = absurd h
+and-true (Some (Integer z)) h = absurd h
 
-  pub row_is_lighter : (t u : Tree) → IsRow s c t u → weight u < weight t
-  row_is_lighter _ _ (C10 x y) = omega arith
+pub true-and : (r : Row) → IsRowOf kind.Boolean r → truth_row op.And (Some (Truth true)) r ≡ r
+true-and None h = refl
+true-and (Some (Truth true)) h = refl
+true-and (Some (Truth false)) h = refl
+true-and (Some (Text b)) h = absurd h
+true-and (Some (Integer z)) h = absurd h
 
-  pub step_keeps_kind : (t u : Tree) → StepsTo (IsRow s c) t u → (k : ValueType) → HasKind s t k → HasKind s u k
-  step_keeps_kind = HasKind-step s (IsRow s c) row_keeps_kind
+pub or-false : (r : Row) → IsRowOf kind.Boolean r → truth_row op.Or r (Some (Truth false)) ≡ r
+or-false None h = refl
+or-false (Some (Truth true)) h = refl
+or-false (Some (Truth false)) h = refl
+or-false (Some (Text b)) h = absurd h
+or-false (Some (Integer z)) h = absurd h
 
-  pub step_keeps_rows : (frame : List Contents) (t u : Tree) → StepsTo (IsRow s c) t u → rows frame t ≡ rows frame u
-  step_keeps_rows frame = fold_tree-step (node_rows frame) (IsRow s c) (row_keeps_rows frame)
+pub false-or : (r : Row) → IsRowOf kind.Boolean r → truth_row op.Or (Some (Truth false)) r ≡ r
+false-or None h = refl
+false-or (Some (Truth true)) h = refl
+false-or (Some (Truth false)) h = refl
+false-or (Some (Text b)) h = absurd h
+false-or (Some (Integer z)) h = absurd h
 
-  pub step_keeps_name : (t u : Tree) → StepsTo (IsRow s c) t u → name t ≡ name u
-  step_keeps_name = fold_tree-step node_name (IsRow s c) row_keeps_name
+-- a function of each row before or after what is done row by row
+map-replicate : (h : Row → Row) (n : ℕ) (r : Row) → map h (replicate n r) ≡ replicate n (h r)
+map-replicate h zero r = refl
+map-replicate h (suc n) r = ap (λ l. h r ∷ l) (map-replicate h n r)
 
-  pub step_is_lighter : (t u : Tree) → StepsTo (IsRow s c) t u → weight u < weight t
-  step_is_lighter = weight-step (IsRow s c) row_is_lighter
+map-first : (h : Row → Row) (rows : List Row) → length rows ≡ 1 → h (get_or rows 0 None) ≡ get_or (map h rows) 0 None
+map-first h [] e = cc
+map-first h (r ∷ rows) e = refl
 
-  pub reached_has_kind : (t u : Tree) → Reaches (IsRow s c) t u → (k : ValueType) → HasKind s t k → HasKind s u k
-  reached_has_kind = HasKind-reaches s (IsRow s c) row_keeps_kind
+pub stretch-map : (h : Row → Row) (n : ℕ) (rows : List Row) → stretch n (map h rows) ≡ map h (stretch n rows)
+stretch-map h n rows = elim (by_eq (length rows) 1) [
+  | inl one ↦
+      stretch_one (map h rows) n (length-map rows h ∙ one)
+      ∙ (ap (replicate n) (sym (map-first h rows one)) ∙ (sym (map-replicate h n (get_or rows 0 None)) ∙ ap (map h) (sym (stretch_one rows n one))))
+  | inr other ↦ stretch_other (map h rows) n (λ e. other (sym (length-map rows h) ∙ e)) ∙ ap (map h) (sym (stretch_other rows n other))
+]
 
-  pub reached_has_rows : (frame : List Contents) (t u : Tree) → Reaches (IsRow s c) t u → rows frame t ≡ rows frame u
-  reached_has_rows frame = fold_tree-reaches (node_rows frame) (IsRow s c) (row_keeps_rows frame)
+zip2-mapped : (P : Row → Type 0) (h : Row → Row) (f g : Row → Row → Row) → ((x y : Row) → P x → P y → g (h x) (h y) ≡ h (f x y)) → (xs ys : List Row) → Each1 P xs → Each1 P ys → zip2 g (map h xs) (map h ys) ≡ map h (zip2 f xs ys)
+zip2-mapped P h f g same [] ys p q = refl
+zip2-mapped P h f g same (x ∷ xs) [] p q = refl
+zip2-mapped P h f g same (x ∷ xs) (y ∷ ys) p q = let here = same x y p.0 q.0 in let rest = zip2-mapped P h f g same xs ys p.1 q.1 in cc
 
-  pub reached_has_name : (t u : Tree) → Reaches (IsRow s c) t u → name t ≡ name u
-  reached_has_name = fold_tree-reaches node_name (IsRow s c) row_keeps_name
+stretched : (P : Row → Type 0) → P None → (n : ℕ) (rows : List Row) → Each1 P rows → Each1 P (stretch n rows)
+stretched P d n rows p = elim (by_eq (length rows) 1) [
+  | inl one ↦ subst (Each1 P) (sym (stretch_one rows n one)) (copies n (get_or rows 0 None) (first rows p))
+  | inr other ↦ subst (Each1 P) (sym (stretch_other rows n other)) p
+]
+  where
+    first : (rows : List Row) → Each1 P rows → P (get_or rows 0 None)
+    first [] p = d
+    first (r ∷ rows) p = p.0
 
-  pub reached_is_no_heavier : (t u : Tree) → Reaches (IsRow s c) t u → weight u ≤ weight t
-  reached_is_no_heavier = weight-reaches (IsRow s c) row_is_lighter
+    copies : (n : ℕ) (r : Row) → P r → Each1 P (replicate n r)
+    copies zero r p = tt
+    copies (suc n) r p = (p, copies n r p)
 
-  pub reached_has_mean : (frame : List Contents) (t u : Tree) → Reaches (IsRow s c) t u → mean frame t ≡ mean frame u
-  reached_has_mean frame t u r =
-      let e : rows frame t ≡ rows frame u = reached_has_rows frame t u r in
-      let f : name t ≡ name u = reached_has_name t u r in
-      ap (λ (o : Option TypedRows). option_map (λ (values : TypedRows). record { name = name t; values = values }) o) e
-      ∙ ap (λ (n : List ℕ). option_map (λ (values : TypedRows). record { name = n; values = values }) (rows frame u)) f
+-- a function of each row goes through what is done row by row
+pub row_by_row-mapped :
+    (P : Row → Type 0) → P None → (h : Row → Row) (f g : Row → Row → Row) → ((x y : Row) → P x → P y → g (h x) (h y) ≡ h (f x y)) → (xs ys : List Row) → Each1 P xs → Each1 P ys →
+    row_by_row g (map h xs) (map h ys) ≡ option_map (map h) (row_by_row f xs ys)
+row_by_row-mapped P d h f g same xs ys p q =
+    ap (λ m. option_map (λ n. zip2 g (stretch n (map h xs)) (stretch n (map h ys))) (joined m (length (map h ys)))) (length-map xs h)
+    ∙ (ap (λ m. option_map (λ n. zip2 g (stretch n (map h xs)) (stretch n (map h ys))) (joined (length xs) m)) (length-map ys h)
+    ∙ go (joined (length xs) (length ys)))
+  where
+    go : (o : Option ℕ) → option_map (λ n. zip2 g (stretch n (map h xs)) (stretch n (map h ys))) o ≡ option_map (map h) (option_map (λ n. zip2 f (stretch n xs) (stretch n ys)) o)
+    go None = refl
+    go (Some n) = ap Some
+        (ap (λ l. zip2 g l (stretch n (map h ys))) (stretch-map h n xs)
+        ∙ (ap (λ l. zip2 g (map h (stretch n xs)) l) (stretch-map h n ys)
+        ∙ zip2-mapped P h f g same (stretch n xs) (stretch n ys) (stretched P d n xs p) (stretched P d n ys q)))
 
-  pub reached_is_same : (frame : List Contents) (t u : Tree) → Reaches (IsRow s c) t u → Same c (mean frame t) (mean frame u)
-  reached_is_same frame t u r =
-      let e : rows frame t ≡ rows frame u = reached_has_rows frame t u r in
-      subst (λ (o : Option TypedRows). Same c (mean frame t) (option_map (λ (values : TypedRows). record { name = name u; values = values }) o)) e
-      (same_values c (name t) (name u) (rows frame t) (λ select. reached_has_name t u r))
+map-zip2 : (h : Row → Row) (f g : Row → Row → Row) → ((x y : Row) → h (f x y) ≡ g x y) → (xs ys : List Row) → map h (zip2 f xs ys) ≡ zip2 g xs ys
+map-zip2 h f g same [] ys = refl
+map-zip2 h f g same (x ∷ xs) [] = refl
+map-zip2 h f g same (x ∷ xs) (y ∷ ys) = let here = same x y in let rest = map-zip2 h f g same xs ys in cc
+
+-- a function of what is done row by row
+pub row_by_row-after : (h : Row → Row) (f g : Row → Row → Row) → ((x y : Row) → h (f x y) ≡ g x y) → (xs ys : List Row) → option_map (map h) (row_by_row f xs ys) ≡ row_by_row g xs ys
+row_by_row-after h f g same xs ys = go (joined (length xs) (length ys))
+  where
+    go : (o : Option ℕ) → option_map (map h) (option_map (λ n. zip2 f (stretch n xs) (stretch n ys)) o) ≡ option_map (λ n. zip2 g (stretch n xs) (stretch n ys)) o
+    go None = refl
+    go (Some n) = ap Some (map-zip2 h f g same (stretch n xs) (stretch n ys))
+
+opposite : (b : Bool) → not_row (Some (Truth b)) ≡ Some (Truth (not b))
+opposite true = refl
+opposite false = refl
+
+twice : (b : Bool) → not (not b) ≡ b
+twice true = refl
+twice false = refl
+
+-- the opposite of a test is the test of the opposite
+pub not-test : (f g : Datum → Datum → Bool) → ((d e : Datum) → not (f d e) ≡ g d e) → (x y : Row) → not_row (test_row f x y) ≡ test_row g x y
+not-test f g h None y = refl
+not-test f g h (Some d) None = refl
+not-test f g h (Some d) (Some e) = opposite (f d e) ∙ ap (λ b. Some (Truth b)) (h d e)
+
+pub not-Eq : (x y : Row) → not_row (compare_row op.Eq x y) ≡ compare_row op.NotEq x y
+not-Eq = not-test equal (λ a b. not (equal a b)) (λ d e. refl)
+
+pub not-NotEq : (x y : Row) → not_row (compare_row op.NotEq x y) ≡ compare_row op.Eq x y
+not-NotEq = not-test (λ a b. not (equal a b)) equal (λ d e. twice (equal d e))
+
+pub not-Lt : (x y : Row) → not_row (compare_row op.Lt x y) ≡ compare_row op.GtEq x y
+not-Lt = not-test less (λ a b. not (less a b)) (λ d e. refl)
+
+pub not-LtEq : (x y : Row) → not_row (compare_row op.LtEq x y) ≡ compare_row op.Gt x y
+not-LtEq = not-test (λ a b. not (less b a)) (λ a b. less b a) (λ d e. twice (less e d))
+
+pub not-Gt : (x y : Row) → not_row (compare_row op.Gt x y) ≡ compare_row op.LtEq x y
+not-Gt = not-test (λ a b. less b a) (λ a b. not (less b a)) (λ d e. refl)
+
+pub not-GtEq : (x y : Row) → not_row (compare_row op.GtEq x y) ≡ compare_row op.Lt x y
+not-GtEq = not-test (λ a b. not (less a b)) less (λ d e. twice (less d e))
+
+pub not-null : (r : Row) → not_row (null_row r) ≡ value_row r
+not-null None = refl
+not-null (Some d) = refl
+
+pub not-value : (r : Row) → not_row (value_row r) ≡ null_row r
+not-value None = refl
+not-value (Some d) = refl
+
+pub map-map : (f g h : Row → Row) → ((r : Row) → f (g r) ≡ h r) → (rows : List Row) → map f (map g rows) ≡ map h rows
+map-map f g h same [] = refl
+map-map f g h same (r ∷ rows) = let here = same r in let rest = map-map f g h same rows in cc
+
+pub map-back : (P : Row → Type 0) (f g : Row → Row) → ((r : Row) → P r → f (g r) ≡ r) → (rows : List Row) → Each1 P rows → map f (map g rows) ≡ rows
+map-back P f g same [] p = refl
+map-back P f g same (r ∷ rows) p = let here = same r p.0 in let rest = map-back P f g same rows p.1 in cc

@@ -1,23 +1,34 @@
--- The check of a tree against a schema: the tree with its type, or the first fault, the inputs from left to
--- right before the node.
-use Rattle.std.specs.Prelude.{ℕ, ◌≡◌, List, [], ◌∷◌, map, Option, Some, None, Result, Ok, Err}
+-- The check of a tree against a catalog: the checked tree with its type, or the first fault. The inputs come
+-- from left to right and then the node.
+use Rattle.std.specs.Prelude.{ℕ, ◌≡◌, ℤ, if◌then◌else◌, List, [], ◌∷◌, map, Option, Some, None, option_map, option_and_then, Result, Ok, Err}
 use Rattle.px_base.specs.declared.error.PlanError.{PlanError}
 use Rattle.px_base.specs.declared.error.PlanError.TheVariants.{ColumnNotFound, InvalidOperation}
-use Rattle.px_types.specs.declared.operator.Operator.{Operator}
-use Rattle.px_types.specs.declared.operator.Operator.TheVariants.{Plus}
+use Rattle.px_types.specs.declared.dtype.DataType.{DataType}
+use Rattle.px_types.specs.declared.kinds.CastOptions.TheVariants.{NonStrict}
 use Rattle.px_types.specs.declared.value_type.ValueType.{ValueType}
-use Rattle.px_types.specs.declared.value_type.ValueType.TheVariants as kind
-use Rattle.px_types.specs.ValueTypes.{value_type_of}
-use Rattle.px_types.specs.Schemas.{dtype_at}
+use Rattle.px_types.specs.ValueTypes.{value_type_of, dtype_of, holds, default_type}
+use Rattle.px_types.specs.Schemas.{dtype_at, first_repeated, unless_repeated}
+use Rattle.px_expr.specs.declared.context.Context.{Context}
+use Rattle.px_expr.specs.declared.context.Context.TheVariants.{Select, Filter}
 use Rattle.px_expr.specs.declared.literal.LiteralValue.{LiteralValue}
-use Rattle.px_expr.specs.declared.literal.LiteralValue.TheVariants.{Int32}
-use Rattle.px_expr.specs.Tree.{Node, Alias, Column, Literal, Binary, Tree, over, fold_tree}
+use Rattle.px_expr.specs.declared.literal.LiteralValue.TheVariants as lit
+use Rattle.px_expr.specs.Tree.{Node, Column, Literal, Cast, Tree, over, fold_tree}
+use Rattle.px_types.specs.Columns.{is_boolean}
+use Rattle.px_meaning.specs.Literals.{literal_of}
+use Rattle.px_meaning.specs.Names.{name}
 use Rattle.px_meaning.specs.Schema.{Schema}
+use Rattle.px_expr.specs.Plan.{Catalog}
+use Rattle.px_meaning.specs.Signatures.{Operand, Known, Free, Signature, signature, leaf, is_type, given, is_castable}
 
 -- a tree that was checked, with its type
 pub record Typed : Type 0 where
   pub tree : Tree
   pub kind : ValueType
+
+-- what is found at a place: a checked tree with its type, or an integer literal whose type the node above settles
+pub data Found : Type 0 where
+  Checked : Typed → Found
+  Untyped : ℤ → Found
 
 -- the answer, or the fault that came before
 abbrev pub then_ : {A B : Type 0} → Result A PlanError → (A → Result B PlanError) → Result B PlanError
@@ -29,53 +40,99 @@ abbrev pub gathered : {A : Type 0} → List (Result A PlanError) → Result (Lis
 gathered [] = Ok []
 gathered (r ∷ rs) = then_ r (λ a. then_ (gathered rs) (λ as'. Ok (a ∷ as')))
 
-abbrev pub literal_kind : LiteralValue → ValueType
-literal_kind (Int32 z) = kind.Int32
-
--- the type of an operator over two operands of these types
-abbrev pub binary_kind : Operator → ValueType → ValueType → Option ValueType
-binary_kind Plus kind.Int32 kind.Int32 = Some kind.Int32
-binary_kind _ a b = None
-
--- a type, or the fault that there is none
+-- a value, or the fault that there is none
 abbrev pub or_fault : {A : Type 0} → PlanError → Option A → Result A PlanError
 or_fault e (Some a) = Ok a
 or_fault e None = Err e
 
--- the type of the column of this name, which is to be a value type
-abbrev pub column_kind : Schema → List ℕ → Result ValueType PlanError
-column_kind s name = then_ (or_fault (ColumnNotFound name) (dtype_at s name)) (λ dtype. or_fault InvalidOperation (value_type_of dtype))
+abbrev pub operand_of : Found → Operand
+operand_of (Checked t) = Known t.kind
+operand_of (Untyped z) = Free z
 
--- the type of a node over checked inputs
-abbrev pub node_kind : Schema → Node → List ValueType → Result ValueType PlanError
-node_kind s (Column name) [] = column_kind s name
-node_kind s (Literal value) [] = Ok (literal_kind value)
-node_kind s (Alias name) (a ∷ []) = Ok a
-node_kind s (Binary op) (a ∷ b ∷ []) = or_fault InvalidOperation (binary_kind op a b)
-node_kind s _ _ = Err InvalidOperation
+-- a literal as a tree
+abbrev pub literal : LiteralValue → Tree
+literal v = over (Literal v) []
 
--- the node over its checked inputs, with its type
-abbrev pub node_typed : Schema → Node → List Typed → Result Typed PlanError
-node_typed s n inputs = then_ (node_kind s n (map (λ (i : Typed). i.kind) inputs)) (λ k. Ok (record { tree = over n (map (λ (i : Typed). i.tree) inputs); kind = k }))
+-- the tree under an inserted cast
+abbrev pub cast_tree : ValueType → Tree → Tree
+cast_tree to t = over (Cast (dtype_of to) NonStrict) (t ∷ [])
 
-abbrev pub check_node : Schema → Node → List (Result Typed PlanError) → Result Typed PlanError
-check_node s n inputs = then_ (gathered inputs) (node_typed s n)
+-- an integer literal in its default type
+abbrev pub default_literal : ℤ → Option ValueType → Tree
+default_literal z (Some k) = literal (literal_of k z)
+default_literal z None = literal (lit.Int z)
 
-abbrev pub check : Schema → Tree → Result Typed PlanError
-check s = fold_tree (check_node s)
+-- an input made what a signature wants: as it is where it has the type, else under a cast. An integer literal
+-- gets the type where that holds it, else its default type.
+abbrev pub coerced : ValueType → Found → Tree
+coerced to (Checked t) = if is_type t.kind to then t.tree else cast_tree to t.tree
+coerced to (Untyped z) = if holds to z then literal (literal_of to z) else cast_tree to (default_literal z (default_type z))
 
--- the type of a node from its inputs' types, or their first fault
-abbrev pub kind_node : Schema → Node → List (Result ValueType PlanError) → Result ValueType PlanError
-kind_node s n kinds = then_ (gathered kinds) (node_kind s n)
+abbrev pub coerced_all : List ValueType → List Found → List Tree
+coerced_all (k ∷ ks) (f ∷ fs) = coerced k f ∷ coerced_all ks fs
+coerced_all _ _ = []
 
--- the type of a tree, or its first fault
-abbrev pub kind_of : Schema → Tree → Result ValueType PlanError
-kind_of s = fold_tree (kind_node s)
+-- the type of a column whose field has this one
+-- core language only: no columns of texts
+abbrev pub column_type : DataType → Option ValueType
+column_type dtype = option_and_then (λ k. given (is_castable k) k) (value_type_of dtype)
+
+abbrev pub column_signature : Schema → List ℕ → List Operand → Result Signature PlanError
+column_signature s n os =
+    then_ (or_fault (ColumnNotFound n) (dtype_at s n)) (λ dtype. or_fault InvalidOperation (option_and_then (λ k. leaf k os) (column_type dtype)))
+
+-- the signature of a node over such inputs, or the node's own fault
+abbrev pub resolve : Catalog → Node → List Operand → Result Signature PlanError
+resolve c (Column n) os = column_signature c.schema n os
+resolve c n os = or_fault InvalidOperation (signature c.kernels n os)
+
+-- the node over its inputs as the signature wants them
+abbrev pub made : Node → List Found → Signature → Found
+made n inputs s = Checked (record { tree = over n (coerced_all s.inputs inputs); kind = s.result })
+
+-- what stands for a literal that the node above settles
+abbrev pub deferred : Node → Option Found
+deferred (Literal (lit.Int z)) = Some (Untyped z)
+deferred _ = None
+
+abbrev pub settled_or : Option Found → Result Found PlanError → Result Found PlanError
+settled_or (Some f) r = Ok f
+settled_or None r = r
+
+-- what is found at a node, from what is found at its inputs
+abbrev pub find : Catalog → Node → List (Result Found PlanError) → Result Found PlanError
+find c n answers = then_ (gathered answers) (λ inputs. settled_or (deferred n) (then_ (resolve c n (map operand_of inputs)) (λ s. Ok (made n inputs s))))
+
+abbrev pub found : Catalog → Tree → Result Found PlanError
+found c = fold_tree (find c)
+
+-- a whole tree that is an integer literal has its default type
+abbrev pub settled : Found → Result Typed PlanError
+settled (Checked t) = Ok t
+settled (Untyped z) = or_fault InvalidOperation (option_map (λ k. record { tree = literal (literal_of k z); kind = k }) (default_type z))
+
+-- the checked tree with its type, or the first fault
+abbrev pub check : Catalog → Tree → Result Typed PlanError
+check c t = then_ (found c t) settled
 
 -- the check gives the tree itself, with this type
-abbrev pub HasKind : Schema → Tree → ValueType → Type 0
-HasKind s t k = check s t ≡ Ok (record { tree = t; kind = k })
+abbrev pub HasKind : Catalog → Tree → ValueType → Type 0
+HasKind c t k = check c t ≡ Ok (record { tree = t; kind = k })
 
 -- the check gives the tree itself
-abbrev pub IsChecked : Schema → Tree → Type 0
-IsChecked s t = (k : ValueType) × HasKind s t k
+abbrev pub IsChecked : Catalog → Tree → Type 0
+IsChecked c t = (k : ValueType) × HasKind c t k
+
+-- a mask is Boolean
+abbrev pub as_asked : Context → Typed → Result Typed PlanError
+as_asked Select t = Ok t
+as_asked Filter t = or_fault InvalidOperation (given (is_boolean t.kind) t)
+
+-- in a select the names of the trees are distinct
+abbrev pub with_names : Context → List Typed → Result (List Typed) PlanError
+with_names Select ts = unless_repeated ts (first_repeated (map (λ (t : Typed). name t.tree) ts))
+with_names Filter ts = Ok ts
+
+-- the checked trees of a list, or the first fault; a name that comes twice after all other faults
+abbrev pub check_list : Catalog → Context → List Tree → Result (List Typed) PlanError
+check_list c context ts = then_ (gathered (map (λ t. then_ (check c t) (as_asked context)) ts)) (with_names context)

@@ -1,4 +1,12 @@
 pub mod Schema
-pub mod Mean
+pub mod Literals
+pub mod Signatures
+pub mod Names
 pub mod Check
-pub mod Rewrite
+pub mod Lowerable
+pub mod Mean
+pub mod Faults
+pub mod Weight
+pub mod Rewriting
+pub mod Rewrites
+pub mod Laws

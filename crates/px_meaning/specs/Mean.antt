@@ -1,58 +1,88 @@
 -- What a tree means on a frame: rows with their type, or nothing, and a name. The rows of a node are a
--- function of the node and of its inputs' rows alone, and its name of the node and its inputs' names alone.
-use Rattle.std.specs.Prelude.{◌≡◌, ◌⊎◌, ℕ, List, [], ◌∷◌, length, codes, Option, Some, None, option_map}
+-- function of the node and of its inputs' rows alone, whatever their names.
+use Rattle.std.specs.Prelude.{◌≡◌, ℕ, List, [], ◌∷◌, map, length, Option, Some, None, option_map, option_and_then}
+use Rattle.px_types.specs.declared.function.BooleanFunction.{BooleanFunction}
+use Rattle.px_types.specs.declared.function.BooleanFunction.TheVariants.{IsNull, IsNotNull, Not}
+use Rattle.px_types.specs.declared.function.FunctionExpr.{FunctionExpr}
+use Rattle.px_types.specs.declared.function.FunctionExpr.TheVariants as function
 use Rattle.px_types.specs.declared.operator.Operator.{Operator}
-use Rattle.px_types.specs.declared.operator.Operator.TheVariants.{Plus}
-use Rattle.px_types.specs.declared.value_type.ValueType.{ValueType}
-use Rattle.px_types.specs.declared.value_type.ValueType.TheVariants as kind
-use Rattle.px_types.specs.Arithmetic.{arith_rows}
-use Rattle.px_types.specs.Rows.{Integer, TypedRows, Contents}
+use Rattle.px_types.specs.Arithmetic.{arith_rows, negate_rows}
+use Rattle.px_types.specs.Casts.{cast_to}
+use Rattle.px_types.specs.Choices.{choose_rows}
+use Rattle.px_types.specs.Comparisons.{compare_rows}
+use Rattle.px_types.specs.Fused.{fused_rows}
+use Rattle.px_types.specs.Logic.{logic_rows, inverse_rows, tested_rows, null_row, value_row}
+use Rattle.px_types.specs.Rows.{TypedRows, Contents, joined, stretch}
 use Rattle.px_expr.specs.declared.context.Context.{Context}
 use Rattle.px_expr.specs.declared.context.Context.TheVariants.{Select, Filter}
-use Rattle.px_expr.specs.declared.literal.LiteralValue.{LiteralValue}
-use Rattle.px_expr.specs.declared.literal.LiteralValue.TheVariants.{Int32}
-use Rattle.px_expr.specs.Tree.{Node, Alias, Column, Literal, Binary, Tree, fold_tree}
+use Rattle.px_expr.specs.Kernel.{Kernel}
+use Rattle.px_expr.specs.Tree.{Node, Alias, Column, Literal, Binary, Cast, Ternary, Function, Tree, fold_tree}
+use Rattle.px_meaning.specs.Literals.{literal_rows}
+use Rattle.px_meaning.specs.Names.{name}
 use Rattle.px_meaning.specs.Schema.{column_at}
+use Rattle.px_meaning.specs.Signatures.{Group, Arithmetic, Comparison, Bitwise, Logical, Fractional, group_of}
 
--- one row that holds the literal's value
-abbrev pub literal_rows : LiteralValue → TypedRows
-literal_rows (Int32 z) = record { kind = kind.Int32; rows = Some (Integer z) ∷ [] }
+-- row by row what an operator gives
+abbrev pub group_rows : Group → Operator → TypedRows → TypedRows → Option TypedRows
+group_rows Arithmetic o a b = arith_rows o a b
+group_rows Comparison o a b = compare_rows o a b
+group_rows Bitwise o a b = logic_rows o a b
+group_rows Logical o a b = logic_rows o a b
+group_rows Fractional o a b = None
 
--- row by row what the operator gives
-abbrev pub binary_rows : Operator → TypedRows → TypedRows → Option TypedRows
-binary_rows Plus a b = arith_rows Plus a b
-binary_rows _ a b = None
+abbrev pub binary_rows : Operator → List TypedRows → Option TypedRows
+binary_rows o (a ∷ b ∷ []) = group_rows (group_of o) o a b
+binary_rows o _ = None
 
--- both, or nothing where one is nothing
-abbrev pub with_both : {A B : Type 0} → (A → A → Option B) → Option A → Option A → Option B
-with_both f (Some a) (Some b) = f a b
-with_both f _ _ = None
+abbrev pub boolean_rows : BooleanFunction → TypedRows → TypedRows
+boolean_rows IsNull a = tested_rows null_row a
+boolean_rows IsNotNull a = tested_rows value_row a
+boolean_rows Not a = inverse_rows a
 
-abbrev pub node_rows : List Contents → Node → List (Option TypedRows) → Option TypedRows
-node_rows frame (Column name) [] = column_at frame name
-node_rows frame (Literal value) [] = Some (literal_rows value)
-node_rows frame (Alias name) (a ∷ []) = a
-node_rows frame (Binary op) (a ∷ b ∷ []) = with_both (binary_rows op) a b
-node_rows frame _ _ = None
+-- f of one column, and of three
+abbrev pub of_one : (TypedRows → Option TypedRows) → List TypedRows → Option TypedRows
+of_one f (a ∷ []) = f a
+of_one f _ = None
+
+abbrev pub of_three : (TypedRows → TypedRows → TypedRows → Option TypedRows) → List TypedRows → Option TypedRows
+of_three f (a ∷ b ∷ c ∷ []) = f a b c
+of_three f _ = None
+
+abbrev pub function_rows : FunctionExpr → List TypedRows → Option TypedRows
+function_rows (function.Boolean f) inputs = of_one (λ a. Some (boolean_rows f a)) inputs
+function_rows function.Negate inputs = of_one (λ a. Some (negate_rows a)) inputs
+function_rows (function.Fused f) inputs = of_three (fused_rows f) inputs
+
+-- the rows of a node over columns
+abbrev pub own_rows : List Kernel → List Contents → Node → List TypedRows → Option TypedRows
+own_rows kernels frame (Alias n) inputs = of_one Some inputs
+own_rows kernels frame (Column n) inputs = column_at frame n
+own_rows kernels frame (Literal v) inputs = literal_rows v
+own_rows kernels frame (Binary o) inputs = binary_rows o inputs
+own_rows kernels frame (Cast dtype options) inputs = of_one (cast_to options dtype) inputs
+own_rows kernels frame Ternary inputs = of_three choose_rows inputs
+own_rows kernels frame (Function f) inputs = function_rows f inputs
+own_rows kernels frame _ inputs = None
+
+-- all values, or nothing where one is nothing
+abbrev pub all_of : {A : Type 0} → List (Option A) → Option (List A)
+all_of [] = Some []
+all_of (o ∷ os) = option_and_then (λ a. option_map (λ as'. a ∷ as') (all_of os)) o
+
+-- the rows of a node over inputs that may mean nothing
+abbrev pub node_rows : List Kernel → List Contents → Node → List (Option TypedRows) → Option TypedRows
+node_rows kernels frame n inputs = option_and_then (own_rows kernels frame n) (all_of inputs)
 
 -- the rows that a tree means on a frame
-abbrev pub rows : List Contents → Tree → Option TypedRows
-rows frame = fold_tree (node_rows frame)
+abbrev pub rows : List Kernel → List Contents → Tree → Option TypedRows
+rows kernels frame = fold_tree (node_rows kernels frame)
 
-abbrev pub node_name : Node → List (List ℕ) → List ℕ
-node_name (Column name) [] = name
-node_name (Literal value) [] = codes "literal"
-node_name (Alias name) (a ∷ []) = name
-node_name (Binary op) (a ∷ b ∷ []) = a
-node_name _ _ = []
-
--- the name of what a tree means
-abbrev pub name : Tree → List ℕ
-name = fold_tree node_name
+abbrev pub named : List ℕ → TypedRows → Contents
+named n values = record { name = n; values = values }
 
 -- the column that a tree means on a frame
-abbrev pub mean : List Contents → Tree → Option Contents
-mean frame t = option_map (λ (values : TypedRows). record { name = name t; values = values }) (rows frame t)
+abbrev pub mean : List Kernel → List Contents → Tree → Option Contents
+mean kernels frame t = option_map (named (name t)) (rows kernels frame t)
 
 -- both mean nothing, or both mean columns of the same values, and in a select of the same name
 abbrev pub Same : Context → Option Contents → Option Contents → Type 0
@@ -61,7 +91,25 @@ Same Filter (Some a) (Some b) = a.values ≡ b.values
 Same c None None = Unit {0}
 Same c _ _ = ⊥
 
--- rows of the type: one row, or as many as the frame has
-pub record AreRowsOf (kind : ValueType) (height : ℕ) (values : TypedRows) : Type 0 where
-  pub typed : values.kind ≡ kind
-  pub tall : (length values.rows ≡ 1) ⊎ (length values.rows ≡ height)
+-- the length to which lengths join: that of all that are not one, or one
+abbrev pub joined_all : List ℕ → Option ℕ
+joined_all [] = Some 1
+joined_all (n ∷ []) = Some n
+joined_all (m ∷ (n ∷ ns)) = option_and_then (joined m) (joined_all (n ∷ ns))
+
+-- a mask has no name
+abbrev pub shown_name : Context → List ℕ → List ℕ
+shown_name Select n = n
+shown_name Filter n = []
+
+-- the column as it is answered, with its rows stretched
+abbrev pub shown : Context → ℕ → Contents → Contents
+shown context n c = named (shown_name context c.name) (record { kind = c.values.kind; rows = stretch n c.values.rows })
+
+abbrev pub lined_up : Context → List Contents → Option (List Contents)
+lined_up context columns = option_map (λ n. map (shown context n) columns) (joined_all (map (λ (c : Contents). length c.values.rows) columns))
+
+-- the columns that a list of trees means, each stretched to the length to which all join; nothing where a tree
+-- means nothing or the lengths do not join
+abbrev pub mean_list : List Kernel → List Contents → Context → List Tree → Option (List Contents)
+mean_list kernels frame context ts = option_and_then (lined_up context) (all_of (map (mean kernels frame) ts))

@@ -1,78 +1,174 @@
 //! Laws over the definitions.
-ghost use Rattle.std.specs.Prelude.{◌≡◌, ℕ, ◌+◌, ◌<◌, ◌≤◌, List, [], ◌∷◌, Ok, IsSomeAnd};
-ghost use Rattle.px_types.specs.declared.operator.Operator.{Operator};
+ghost use Rattle.std.specs.Prelude.{◌≡◌, ℕ, ◌+◌, ◌*◌, ◌^◌, ◌≤◌, List, [], ◌∷◌, map, length, codes, pos, negsuc, true, false, None, Some, Ok};
+ghost use Rattle.std.specs.List.{All};
+ghost use Rattle.px_base.specs.declared.error.PlanError.{PlanError};
+ghost use Rattle.px_types.specs.declared.dtype.DataType.TheVariants as dtype;
+ghost use Rattle.px_types.specs.declared.operator.Operator.TheVariants as op;
 ghost use Rattle.px_types.specs.declared.value_type.ValueType.{ValueType};
-ghost use Rattle.px_types.specs.Rows.{Contents};
-ghost use Rattle.px_types.specs.Frames.{IsFrame, height_of};
+ghost use Rattle.px_types.specs.declared.value_type.ValueType.TheVariants as kind;
+ghost use Rattle.px_types.specs.Schemas.{first_repeated};
+ghost use Rattle.px_types.specs.Rows.{TypedRows, Contents};
 ghost use Rattle.px_expr.specs.declared.context.Context.{Context};
-ghost use Rattle.px_expr.specs.declared.literal.LiteralValue.{LiteralValue};
-ghost use Rattle.px_expr.specs.Tree.{Alias, Column, Literal, Binary, Tree, Trees, none, more, over};
-ghost use Rattle.px_meaning.specs.Schema.{Schema, Fits};
-ghost use Rattle.px_meaning.specs.Mean.{rows, name, mean, Same, AreRowsOf};
-ghost use Rattle.px_meaning.specs.Check.{Typed, check, HasKind};
-ghost use Rattle.px_meaning.specs.Rewrite.{IsRow, StepsTo, Reaches, Moves, weight, weights};
+ghost use Rattle.px_expr.specs.declared.context.Context.TheVariants.{Select, Filter};
+ghost use Rattle.px_expr.specs.declared.literal.LiteralValue.TheVariants as lit;
+ghost use Rattle.px_expr.specs.Tree.{Column, Tree, Trees, none, more, trees, over};
+ghost use Rattle.px_types.specs.Columns.{IsColumn};
+ghost use Rattle.px_meaning.specs.Schema.{Fits};
+ghost use Rattle.px_expr.specs.Plan.{Catalog, catalog_of};
+ghost use Rattle.px_meaning.specs.Mean.{rows, mean, Same, mean_list};
+ghost use Rattle.px_meaning.specs.Faults.{HasFault};
+ghost use Rattle.px_meaning.specs.Check.{Typed, literal, cast_tree, check, HasKind, check_list};
+ghost use Rattle.px_meaning.specs.Lowerable.{IsLowerable};
+ghost use Rattle.px_meaning.specs.Names.{name};
+ghost use Rattle.px_meaning.specs.Laws.{KeepsMeaning};
+ghost use Rattle.px_meaning.specs.Rewriting.{StepsTo, Reaches, Pairwise, AllReach, Moves};
+ghost use Rattle.px_meaning.specs.Rewrites.{binary, not_tree, truth, IsRewrite};
+ghost use Rattle.px_meaning.specs.Signatures.{Known, Free, united};
+ghost use Rattle.px_meaning.specs.Weight.{weight, weights, nodes, nots, node_count, not_depth};
 
-/// A leaf weighs 1, an operator 3 more than its operands, an alias 1 more than its input.
-pub fn weights_add_up()
-    ensures column { (n : List ℕ) → weight (over (Column n) []) ≡ 1 }
-    ensures literal { (value : LiteralValue) → weight (over (Literal value) []) ≡ 1 }
-    ensures alias { (n : List ℕ) (t : Tree) → weight (over (Alias n) (t ∷ [])) ≡ weight t + 1 }
-    ensures binary { (op : Operator) (t u : Tree) →
-        weight (over (Binary op) (t ∷ u ∷ [])) ≡ weight t + weight u + 3 }
+/// A checked tree that means something on a fitting frame means a column of its type: fewer than
+/// 2^32 rows, each of them null or a value of the type.
+pub fn checked_trees_mean_columns()
+    ensures kind { (c : Catalog) (t : Tree) (k : ValueType) (frame : List Contents) (v : TypedRows) →
+        HasKind c t k → Fits frame c.schema → rows c.kernels frame t ≡ Some v → v.kind ≡ k }
+    ensures column { (c : Catalog) (t : Tree) (k : ValueType) (frame : List Contents) (v : TypedRows) →
+        HasKind c t k → Fits frame c.schema → rows c.kernels frame t ≡ Some v → IsColumn v }
 {}
 
-/// What the check gives is the tree itself, and is checked.
-pub fn check_keeps_trees()
-    ensures tree { (s : Schema) (t : Tree) (v : Typed) → check s t ≡ Ok v → v.tree ≡ t }
-    ensures checked { (s : Schema) (t : Tree) (v : Typed) → check s t ≡ Ok v → HasKind s v.tree v.kind }
+/// A checked tree means nothing on a fitting frame exactly where it has a fault.
+pub fn faulty_trees_mean_nothing()
+    ensures nothing { (c : Catalog) (t : Tree) (k : ValueType) (frame : List Contents) →
+        HasKind c t k → Fits frame c.schema → rows c.kernels frame t ≡ None →
+        (f : PlanError) × HasFault c.kernels frame t f }
+    ensures faulty { (c : Catalog) (t : Tree) (k : ValueType) (frame : List Contents) (f : PlanError) →
+        HasKind c t k → Fits frame c.schema → HasFault c.kernels frame t f → rows c.kernels frame t ≡ None }
 {}
 
-/// A checked tree means rows of its type on every fitting frame: one row, or as many as the frame
-/// has.
-pub fn checked_trees_mean_rows()
-    ensures { (s : Schema) (t : Tree) (kind : ValueType) (frame : List Contents) →
-        HasKind s t kind → Fits frame s → IsFrame frame →
-        IsSomeAnd (rows frame t) (AreRowsOf kind (height_of frame)) }
+/// A rewrite keeps the type of the tree that it replaces, its rows on every fitting frame and, in a
+/// select, its name. It brings no fault, and gives a lighter tree.
+pub fn rewrites_keep_meaning()
+    ensures { (c : Catalog) (context : Context) → KeepsMeaning c context (IsRewrite c context) }
 {}
 
-/// A row keeps the type, the rows on every frame and the name of the tree that it replaces, and
-/// gives a lighter one.
-pub fn rows_keep_meaning()
-    ensures kind { (s : Schema) (c : Context) (t u : Tree) → IsRow s c t u →
-        (kind : ValueType) → HasKind s t kind → HasKind s u kind }
-    ensures rows { (s : Schema) (c : Context) (t u : Tree) → IsRow s c t u →
-        (frame : List Contents) → rows frame t ≡ rows frame u }
-    ensures name { (s : Schema) (c : Context) (t u : Tree) → IsRow s c t u → name t ≡ name u }
-    ensures weight { (s : Schema) (c : Context) (t u : Tree) → IsRow s c t u → weight u < weight t }
-{}
-
-/// A row at one place keeps the type, the rows on every frame and the name of the whole tree, and
-/// makes it lighter.
+/// A rewrite at one place keeps the same of the whole tree.
 pub fn steps_keep_meaning()
-    ensures kind { (s : Schema) (c : Context) (t u : Tree) → StepsTo (IsRow s c) t u →
-        (kind : ValueType) → HasKind s t kind → HasKind s u kind }
-    ensures rows { (s : Schema) (c : Context) (t u : Tree) → StepsTo (IsRow s c) t u →
-        (frame : List Contents) → rows frame t ≡ rows frame u }
-    ensures name { (s : Schema) (c : Context) (t u : Tree) → StepsTo (IsRow s c) t u → name t ≡ name u }
-    ensures weight { (s : Schema) (c : Context) (t u : Tree) → StepsTo (IsRow s c) t u → weight u < weight t }
+    ensures { (c : Catalog) (context : Context) → KeepsMeaning c context (StepsTo (IsRewrite c context)) }
 {}
 
-/// A tree that rows reach has the type of the tree that they began with, means the same on every
-/// frame, and is no heavier.
+/// A tree that rewrites reach has the type of the tree that they began with, means the same on every
+/// fitting frame, has no other faults, and is no heavier.
 pub fn reached_trees_keep_meaning()
-    ensures kind { (s : Schema) (c : Context) (t u : Tree) → Reaches (IsRow s c) t u →
-        (kind : ValueType) → HasKind s t kind → HasKind s u kind }
-    ensures mean { (s : Schema) (c : Context) (t u : Tree) → Reaches (IsRow s c) t u →
-        (frame : List Contents) → Fits frame s → mean frame t ≡ mean frame u }
-    ensures same { (s : Schema) (c : Context) (t u : Tree) → Reaches (IsRow s c) t u →
-        (frame : List Contents) → Fits frame s → Same c (mean frame t) (mean frame u) }
-    ensures weight { (s : Schema) (c : Context) (t u : Tree) → Reaches (IsRow s c) t u → weight u ≤ weight t }
+    ensures kind { (c : Catalog) (context : Context) (t u : Tree) → Reaches (IsRewrite c context) t u →
+        (k : ValueType) → HasKind c t k → HasKind c u k }
+    ensures same { (c : Catalog) (context : Context) (t u : Tree) → Reaches (IsRewrite c context) t u →
+        (frame : List Contents) → Fits frame c.schema →
+        Same context (mean c.kernels frame t) (mean c.kernels frame u) }
+    ensures faults { (c : Catalog) (context : Context) (t u : Tree) → Reaches (IsRewrite c context) t u →
+        (frame : List Contents) → Fits frame c.schema →
+        (f : PlanError) → HasFault c.kernels frame u f → HasFault c.kernels frame t f }
+    ensures weight { (c : Catalog) (context : Context) (t u : Tree) → Reaches (IsRewrite c context) t u →
+        weight u ≤ weight t }
 {}
 
-/// Each move lowers the weight of the list, and moves of a list of one tree reach the other tree.
+/// Each move lowers the weight of the list.
 pub fn moves_lower_weight()
-    ensures weight { (s : Schema) (c : Context) (us vs : Trees) (r : ℕ) → Moves (IsRow s c) us vs r →
-        weights vs + r ≤ weights us }
-    ensures reaches { (s : Schema) (c : Context) (t u : Tree) (r : ℕ) → Moves (IsRow s c) (more t none) (more u none) r →
-        Reaches (IsRow s c) t u }
+    ensures { (c : Catalog) (context : Context) (us vs : Trees) (r : ℕ) →
+        Moves (IsRewrite c context) us vs r → weights vs + r ≤ weights us }
+{}
+
+/// So there are at most 6·n·2^k moves: n the nodes of the trees, k the most `not`s on one path.
+pub fn moves_are_bounded()
+    ensures weight { (us : Trees) → weights us ≤ 6 * node_count us * 2 ^ not_depth us }
+    ensures moves { (c : Catalog) (context : Context) (us vs : Trees) (r : ℕ) →
+        Moves (IsRewrite c context) us vs r → r ≤ 6 * node_count us * 2 ^ not_depth us }
+{}
+
+/// Moves lead each tree, step by step, to the one in its place.
+pub fn moves_reach()
+    ensures each { (c : Catalog) (context : Context) (us vs : Trees) (r : ℕ) →
+        Moves (IsRewrite c context) us vs r → AllReach (IsRewrite c context) us vs }
+    ensures one { (c : Catalog) (context : Context) (t u : Tree) (r : ℕ) →
+        Moves (IsRewrite c context) (more t none) (more u none) r → Reaches (IsRewrite c context) t u }
+{}
+
+/// What a checked list reaches passes the check as it is, with the same types.
+pub fn reached_lists_are_checked()
+    ensures { (c : Catalog) (context : Context) (ts us : List Tree) (vs : List Typed) →
+        check_list c context ts ≡ Ok vs →
+        AllReach (IsRewrite c context) (trees (map (λ (v : Typed). v.tree) vs)) (trees us) →
+        (ws : List Typed) × (check_list c context us ≡ Ok ws) × (map (λ (w : Typed). w.tree) ws ≡ us) ×
+        (map (λ (w : Typed). w.kind) ws ≡ map (λ (v : Typed). v.kind) vs) }
+{}
+
+/// Lists whose trees reach those in their places are answered alike on every fitting frame: the same
+/// columns under the same names, or nothing. The second list brings no fault.
+pub fn reached_lists_mean_the_same()
+    ensures answer { (c : Catalog) (context : Context) (ts us : List Tree) →
+        AllReach (IsRewrite c context) (trees ts) (trees us) →
+        (frame : List Contents) → Fits frame c.schema →
+        mean_list c.kernels frame context ts ≡ mean_list c.kernels frame context us }
+    ensures faults { (c : Catalog) (context : Context) (us vs : Trees) →
+        AllReach (IsRewrite c context) us vs →
+        (frame : List Contents) → Fits frame c.schema →
+        Pairwise (λ u v. (f : PlanError) → HasFault c.kernels frame v f → HasFault c.kernels frame u f) us vs }
+{}
+
+/// What the check gives is checked.
+pub fn the_check_gives_checked_trees()
+    ensures { (c : Catalog) (t : Tree) (v : Typed) → check c t ≡ Ok v → HasKind c v.tree v.kind }
+{}
+
+/// A checked list has, in their order, what the check gives of each tree, all checked. Masks are
+/// Boolean, and in a select no name comes twice.
+pub fn checked_lists()
+    ensures each { (c : Catalog) (context : Context) (ts : List Tree) (vs : List Typed) →
+        check_list c context ts ≡ Ok vs → map (check c) ts ≡ map Ok vs }
+    ensures count { (c : Catalog) (context : Context) (ts : List Tree) (vs : List Typed) →
+        check_list c context ts ≡ Ok vs → length vs ≡ length ts }
+    ensures checked { (c : Catalog) (context : Context) (ts : List Tree) (vs : List Typed) →
+        check_list c context ts ≡ Ok vs → All (λ (v : Typed). HasKind c v.tree v.kind) vs }
+    ensures masks { (c : Catalog) (ts : List Tree) (vs : List Typed) →
+        check_list c Filter ts ≡ Ok vs → All (λ (v : Typed). v.kind ≡ kind.Boolean) vs }
+    ensures names { (c : Catalog) (ts : List Tree) (vs : List Typed) →
+        check_list c Select ts ≡ Ok vs → first_repeated (map (λ (v : Typed). name v.tree) vs) ≡ None }
+{}
+
+/// What the check gives has only nodes that a plan has.
+pub fn checked_trees_are_lowerable()
+    ensures { (c : Catalog) (t : Tree) (v : Typed) → check c t ≡ Ok v → IsLowerable v.tree }
+{}
+
+/// `Null` is neutral, and Boolean gives way to every integer type.
+pub fn types_unite()
+    ensures null { united (Known kind.Null ∷ Known kind.Int32 ∷ []) ≡ Some kind.Int32 }
+    ensures boolean { united (Known kind.Boolean ∷ Known kind.Int16 ∷ []) ≡ Some kind.Int16 }
+{}
+
+/// Beside a column of the type UInt8 the integer literal 5 has that type, and 300 takes both to Int32.
+pub fn literals_take_the_type_of_their_column()
+    ensures held { let a : Tree = over (Column (codes "a")) [] in
+        check (catalog_of (record { name = codes "a"; dtype = dtype.UInt8 } ∷ []) [])
+        (binary op.Plus a (literal (lit.Int (pos 5)))) ≡
+        Ok (record { tree = binary op.Plus a (literal (lit.UInt8 5)); kind = kind.UInt8 }) }
+    ensures wider { let a : Tree = over (Column (codes "a")) [] in
+        check (catalog_of (record { name = codes "a"; dtype = dtype.UInt8 } ∷ []) [])
+        (binary op.Lt a (literal (lit.Int (pos 300)))) ≡
+        Ok (record { tree = binary op.Lt (cast_tree kind.Int32 a) (literal (lit.Int32 (pos 300))); kind = kind.Boolean }) }
+{}
+
+/// An operator weighs 3 and a leaf 1, and a `not` doubles what stands under it. So a `not` that goes
+/// into an `And` leaves a lighter tree.
+pub fn nots_double_weights()
+    ensures before { weight (not_tree (binary op.And (truth true) (truth false))) ≡ 10 }
+    ensures after { weight (binary op.Or (not_tree (truth true)) (not_tree (truth false))) ≡ 7 }
+    ensures nodes { nodes (not_tree (binary op.And (truth true) (truth false))) ≡ 4 }
+    ensures nots { nots (not_tree (binary op.And (truth true) (not_tree (truth false)))) ≡ 2 }
+{}
+
+/// Integer literals take the common type of the inputs beside them where that holds them, and widen
+/// it by their default types where it does not.
+pub fn literals_unite_with_their_neighbours()
+    ensures wider { united (Known kind.UInt8 ∷ Free (pos 300) ∷ []) ≡ Some kind.Int32 }
+    ensures none { united (Known kind.UInt64 ∷ Free (negsuc 0) ∷ []) ≡ None }
+    ensures each { united (Known kind.UInt32 ∷ Free (pos 10000000000000000000) ∷ Free (pos 5000000000) ∷ []) ≡ None }
 {}

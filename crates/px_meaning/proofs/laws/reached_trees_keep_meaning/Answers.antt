@@ -1,14 +1,17 @@
-use Rattle.px_meaning.proofs.RowLaws.{reached_has_kind, reached_has_mean, reached_is_same, reached_is_no_heavier}
+use Rattle.px_meaning.specs.Rewrites.{IsRewrite}
+use Rattle.px_meaning.proofs.Lines.{IsRewrite-keeps}
+use Rattle.px_meaning.proofs.Steps.{Reaches-keeps, Reaches-same}
+use Rattle.px_meaning.proofs.Weights.{weight-reaches}
 use Rattle.px_meaning.proofs.laws.reached_trees_keep_meaning.Goals as goal
 
 pub returns-clause-kind : goal.returns-clause-kind
-returns-clause-kind c = λ s k t u way. reached_has_kind s k t u way
-
-pub returns-clause-mean : goal.returns-clause-mean
-returns-clause-mean c = λ s k t u way frame fits. reached_has_mean s k frame t u way
+returns-clause-kind g = λ c context t u way. (Reaches-keeps c context (IsRewrite c context) (IsRewrite-keeps c context) t u way).kind
 
 pub returns-clause-same : goal.returns-clause-same
-returns-clause-same c = λ s k t u way frame fits. reached_is_same s k frame t u way
+returns-clause-same g = λ c context t u way frame fits. Reaches-same c context (IsRewrite c context) (IsRewrite-keeps c context) t u way frame fits
+
+pub returns-clause-faults : goal.returns-clause-faults
+returns-clause-faults g = λ c context t u way. (Reaches-keeps c context (IsRewrite c context) (IsRewrite-keeps c context) t u way).faults
 
 pub returns-clause-weight : goal.returns-clause-weight
-returns-clause-weight c = λ s k t u way. reached_is_no_heavier s k t u way
+returns-clause-weight g = λ c context t u way. weight-reaches (IsRewrite c context) ((IsRewrite-keeps c context).lighter) t u way

@@ -1,0 +1,35 @@
+//! The names of the rewrites.
+
+/// The name of a rewrite: `docs/REWRITING.md` says what each of them does.
+#[derive(Clone, Copy, PartialEq, Eq, Debug)]
+pub enum RewriteName {
+    C1,
+    C2,
+    C3,
+    C4,
+    C5,
+    C6,
+    C7,
+    C8,
+    C9,
+    C10,
+    C11,
+    C12,
+    C13,
+    C14,
+    C15,
+    C16,
+    C17,
+    C18,
+    C19,
+    C20,
+    C21,
+    C22,
+    C23,
+    C24,
+    C25,
+    C26,
+    C27,
+    C28,
+    C29,
+}
