@@ -1,0 +1,9 @@
+pub mod Weights
+pub mod Places
+pub mod Replaces
+pub mod Runs
+pub mod Measure
+pub mod Stands
+pub mod Lowers
+pub mod Raises
+pub mod Reading

@@ -1,0 +1,4 @@
+pub mod Denotes
+pub mod Runs
+pub mod Options
+pub mod Lowered
