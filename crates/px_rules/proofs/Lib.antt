@@ -1,0 +1,14 @@
+pub mod Checked
+pub mod Turns
+pub mod Visits
+pub mod Walks
+pub mod Parts
+pub mod Shows
+pub mod KeptOptions
+pub mod NegationRewrites
+pub mod BooleanRewrites
+pub mod FoldedLiterals
+pub mod FoldRewrites
+pub mod LiteralFree
+pub mod FusedRewrites
+pub mod Together

@@ -1,0 +1,9 @@
+pub mod Plan
+pub mod Views
+pub mod Groups
+pub mod Negation
+pub mod Booleans
+pub mod Folding
+pub mod RuleLaws
+pub mod Fusion
+pub mod MadeOptions
