@@ -1,0 +1,4 @@
+pub mod Tables
+pub mod Fills
+pub mod Single
+pub mod Roots
