@@ -1,7 +1,12 @@
 //! Sources and sinks over memory.
-ghost use Rattle.std.specs.Prelude.{◌≡◌, ◌≤◌, ℕ, [], length, drop, IfOk};
+ghost use Rattle.std.specs.Prelude.{◌≡◌, ◌<◌, ◌≤◌, ℕ, [], length, take, drop, min, is_err, IsOk, IfOk, OnErr};
 ghost use Rattle.std.specs.Prelude.{Some, None};
+ghost use Rattle.std.specs.Io.{ReadsAtMost, WritesAtMost};
+ghost use Rattle.std.specs.Io.KnownBytes.{ReadConsumes, WriteAppends};
 ghost use Rattle.px_base.specs.Answer.{GivesOrMemory};
+ghost use Rattle.px_streams.specs.Causes.{HasCause};
+ghost use Rattle.px_streams.specs.Memory.{read_fails, after_read, after_failed_read};
+ghost use Rattle.px_streams.specs.Memory.{room_left, write_fails, after_write, after_failed_write};
 
 use crate::failed::Failed;
 use crate::sink::Sink;
@@ -11,7 +16,8 @@ use std::alloc::Global;
 use std::marker::Model;
 
 /// A source over bytes whose reads are numbered from 0. Those in `failing` fail and take nothing;
-/// each other read gives as many bytes as the buffer holds. The number stops at 2^64 - 1.
+/// each other read gives as many bytes as the buffer holds. The number and the count of faults stop
+/// at 2^64 - 1.
 #[derive(Drop)]
 pub struct MemorySource {
     bytes: Vec<u8>,
@@ -59,7 +65,17 @@ impl Source for MemorySource {
 
     ghost faults = { λ s. s.faults };
 
-    fn read(&mut self, buffer: &mut [u8]) -> Result<usize, Failed> {
+    fn read(&mut self, buffer: &mut [u8]) -> Result<usize, Failed>
+        ensures bound { ReadsAtMost result buffer.new }
+        ensures bytes { ReadConsumes (Some self.old.left) (Some self.new.left) result buffer.new }
+        ensures cause { HasCause self.old.faults self.new.faults result }
+
+        // Which reads fail, and how many bytes the others give.
+        ensures failed { is_err result ≡ read_fails self.old }
+        ensures count { IfOk result (λ count. count ≡ min (length buffer.old) (length self.old.left)) }
+        ensures ok { IfOk result (λ count. self.new ≡ after_read self.old count) }
+        ensures err { OnErr result (self.new ≡ after_failed_read self.old) }
+    {
         let number = self.next;
         self.next = number.saturating_add(1);
         if self.failing.contains(&number) {
@@ -107,7 +123,15 @@ impl Source for SteadySource {
 
     ghost faults = { λ _. 0 };
 
-    fn read(&mut self, buffer: &mut [u8]) -> Result<usize, Failed> {
+    fn read(&mut self, buffer: &mut [u8]) -> Result<usize, Failed>
+        ensures bound { ReadsAtMost result buffer.new }
+        ensures bytes { ReadConsumes (Some self.old) (Some self.new) result buffer.new }
+        ensures cause { HasCause 0 0 result }
+
+        // No read fails, and each gives what the buffer holds.
+        ensures count { result ≡ Ok (min (length buffer.old) (length self.old)) }
+        ensures rest { IfOk result (λ count. self.new ≡ drop count self.old) }
+    {
         let count = buffer.len().min(self.bytes.len() - self.at);
         buffer[..count].copy_from_slice(&self.bytes[self.at..self.at + count]);
         self.at += count;
@@ -115,9 +139,9 @@ impl Source for SteadySource {
     }
 }
 
-/// A sink with room for so many bytes, taken at the start. Writes are numbered from 0. Those in
-/// `failing` fail, and so does the write of a piece of which nothing fits; each other write takes
-/// what fits. The number stops at 2^64 - 1.
+/// A sink with room for so many bytes, taken at the start: a write takes no memory. Writes are
+/// numbered from 0. Those in `failing` fail, and so does the write of a piece of which nothing fits;
+/// each other write takes what fits. The number and the count of faults stop at 2^64 - 1.
 #[derive(Drop)]
 pub struct MemorySink {
     bytes: Vec<u8>,
@@ -128,11 +152,14 @@ pub struct MemorySink {
 }
 
 impl Model for MemorySink {
+    ghost use Rattle.std.specs.Prelude.{◌≤◌, length, vec_capacity};
     ghost use Rattle.px_streams.specs.Memory.{Writable};
 
     ghost Value = { Writable };
 
     ghost view = { λ s. record { held = s.bytes.items; room = s.room; next = s.next; failing = s.failing.items; faults = s.faults } };
+
+    ghost invariant = { λ s. (length s.bytes.items ≤ s.room) × (s.room ≤ vec_capacity s.bytes) };
 }
 
 impl MemorySink {
@@ -162,19 +189,30 @@ impl Sink for MemorySink {
 
     ghost faults = { λ s. s.faults };
 
-    fn write(&mut self, piece: &[u8]) -> Result<usize, Failed> {
+    fn write(&mut self, piece: &[u8]) -> Result<usize, Failed>
+        ensures bound { WritesAtMost result piece.now }
+        ensures moves { 0 < length piece.now → IfOk result (λ count. 0 < count) }
+        ensures bytes { WriteAppends (Some self.old.held) (Some self.new.held) result piece.now }
+        ensures cause { HasCause self.old.faults self.new.faults result }
+
+        // Which writes fail, and how many bytes the others take.
+        ensures failed { is_err result ≡ write_fails self.old (length piece.now) }
+        ensures count { IfOk result (λ count. count ≡ min (length piece.now) (room_left self.old)) }
+        ensures ok { IfOk result (λ count. self.new ≡ after_write self.old (take count piece.now)) }
+        ensures err { OnErr result (self.new ≡ after_failed_write self.old) }
+    {
         let number = self.next;
         self.next = number.saturating_add(1);
-        let count = piece.len().min(self.room.saturating_sub(self.bytes.len()));
-        let full = count == 0 && !piece.is_empty();
-        if full
-            || self.failing.contains(&number)
-            || self.bytes.extend_from_slice(&piece[..count]).is_err()
-        {
+        let left = self.room - self.bytes.len();
+        if (left == 0 && !piece.is_empty()) || self.failing.contains(&number) {
             self.faults = self.faults.saturating_add(1);
             return Err(Failed {});
         }
-        Ok(count)
+        let count = piece.len().min(left);
+        match self.bytes.extend_from_slice(&piece[..count]) {
+            Ok(()) => Ok(count),
+            Err(_) => unreachable!("the room was taken at the start"),
+        }
     }
 }
 
@@ -193,7 +231,15 @@ impl Sink for SteadySink {
 
     ghost faults = { λ _. 0 };
 
-    fn write(&mut self, piece: &[u8]) -> Result<usize, Failed> {
+    fn write(&mut self, piece: &[u8]) -> Result<usize, Failed>
+        ensures bound { WritesAtMost result piece.now }
+        ensures moves { 0 < length piece.now → IfOk result (λ count. 0 < count) }
+        ensures bytes { WriteAppends None None result piece.now }
+        ensures cause { HasCause 0 0 result }
+
+        // Every write takes the whole piece.
+        ensures count { result ≡ Ok (length piece.now) }
+    {
         Ok(piece.len())
     }
 }
