@@ -1,5 +1,5 @@
 -- How a table grows while places are evaluated.
-use Rattle.std.proofs.Common.{◌≡◌, ◌≢◌, ◌⊎◌, inl, inr, ◌+◌, ◌<◌, ◌≤◌, ℕ, zero, suc, List, [], ◌∷◌, map, length, set, get_or, Option, Some, None, Ok, Bool, true, false, refl, sym, ◌∙◌, ap, subst, arith}
+use Rattle.std.proofs.Common.{◌≡◌, ◌≢◌, ◌⊎◌, inl, inr, ◌+◌, ◌<◌, ◌≤◌, ℕ, zero, suc, List, [], ◌∷◌, map, length, set, Option, Some, None, Ok, false, refl, sym, ◌∙◌, ap, subst, arith}
 use Rattle.std.specs.Prelude.{IsSome, is_some, option_and_then, option_map, slice_get}
 use Rattle.std.proofs.lemmas.Bool.{cases_eq}
 use Rattle.std.proofs.lemmas.List.{get_or-set_same, get_or-set_other, length-set}
@@ -7,27 +7,28 @@ use Rattle.std.proofs.lemmas.Option.{same_Some, slice_get_within}
 use Rattle.px_base.specs.declared.error.PlanError.{PlanError}
 use Rattle.px_types.specs.declared.value_type.ValueType.{ValueType}
 use Rattle.px_types.specs.Rows.{TypedRows, Contents}
+use Rattle.px_expr.specs.Kernel.{Kernel}
 use Rattle.px_expr.specs.Tree.{Node as Root, Tree, tree, Trees, none, more, fold_trees}
-use Rattle.px_meaning.specs.Check.{IsChecked, resolve}
+use Rattle.px_meaning.specs.Check.{resolve}
 use Rattle.px_meaning.specs.Faults.{HasFault, SomeHasFault, OwnFault, own, of_input, of_first, of_rest}
 use Rattle.px_meaning.specs.Mean.{all_of, node_rows, rows}
 use Rattle.px_meaning.specs.Schema.{Fits, schema_of}
 use Rattle.px_expr.specs.Plan.{Catalog}
 use Rattle.px_meaning.specs.Signatures.{Known}
 use Rattle.px_meaning.proofs.Means.{all-typed}
-use Rattle.px_meaning.proofs.Typing.{Has, HaveAll, has, have_none, have_more, Has-HasKind, HasKind-Has}
+use Rattle.px_meaning.proofs.Typing.{Has, HaveAll, has, have_more, Has-HasKind, HasKind-Has}
 use Rattle.px_arena.specs.declared.node.AExpr.{AExpr}
 use Rattle.px_arena.specs.Denotes.{root_of, inputs_of, Denotes, DenoteAll, IsIn, first, later, Reaches, here, below}
-use Rattle.px_arena.proofs.Measure.{weight_at, denoted_within}
+use Rattle.px_arena.proofs.Measure.{weight_at}
 use Rattle.px_arena.proofs.Places.{denotes_one, no_cycle}
 use Rattle.px_arena.proofs.Raises.{has_input}
 use Rattle.px_arena.proofs.Reading.{holds}
-use Rattle.px_arena.proofs.Runs.{reaches_join}
 use Rattle.px_base.specs.declared.error.PlanError.TheVariants.{OutOfMemory}
 use Rattle.px_eval.specs.declared.table.Rows.{Rows}
-use Rattle.px_eval.specs.Table.{held, answer_rows}
+use Rattle.px_eval.specs.Table.{held, values_of}
 use Rattle.px_eval.specs.Own.{frame_catalog, inputs_held, IsReady, IsAnswer, IsReason, node_gives}
-use Rattle.px_eval.specs.Fills.{IsCheckedAt, IsTable, Keeps, FillsBelow, empty, HasFaultAt}
+use Rattle.px_rules.specs.Plan.{IsCheckedAt}
+use Rattle.px_eval.specs.Fills.{IsTable, Keeps, FillsBelow, empty, HasFaultAt}
 
 pub some_of : {A : Type 0} (o : Option A) → IsSome o → (a : A) × (o ≡ Some a)
 some_of None h = cc
@@ -51,12 +52,12 @@ is_in_at (n ∷ ns) zero m e = subst (λ (z : ℕ). IsIn z (n ∷ ns)) (same_Som
 is_in_at (n ∷ ns) (suc k) m e = later (is_in_at ns k m e)
 
 -- one of the inputs
-record OneOf (c : Catalog) (frame : List Contents) (items : List AExpr) (us : Trees) (m : ℕ) : Type 0 where
+record OneOf (c : Catalog) (kernels : List Kernel) (frame : List Contents) (items : List AExpr) (us : Trees) (m : ℕ) : Type 0 where
   tree : Tree
   kind : ValueType
   denotes : Denotes items m tree
   has : Has c tree kind
-  fault : (e : PlanError) → HasFault [] frame tree e → SomeHasFault [] frame us e
+  fault : (e : PlanError) → HasFault kernels frame tree e → SomeHasFault kernels frame us e
 
 first_has : {c : Catalog} {u : Tree} {us : Trees} {ks : List ValueType} → HaveAll c (more u us) ks → (k : ValueType) × Has c u k
 first_has (have_more {k} h all) = (k, h)
@@ -65,43 +66,43 @@ rest_have : {c : Catalog} {u : Tree} {us : Trees} {ks : List ValueType} → Have
 rest_have (have_more {ks} h all) = (ks, all)
 
 one_of :
-    (c : Catalog) (frame : List Contents) (items : List AExpr) (ns : List ℕ) (us : Trees) (ks : List ValueType) (i m : ℕ) →
-    DenoteAll items ns us → HaveAll c us ks → slice_get ns i ≡ Some m → OneOf c frame items us m
-one_of c frame items [] us ks i m ds h e = cc
-one_of c frame items (n ∷ ns) none ks i m ds h e = absurd ds
-one_of c frame items (n ∷ ns) (more u us) ks zero m (d, ds) h e =
+    (c : Catalog) (kernels : List Kernel) (frame : List Contents) (items : List AExpr) (ns : List ℕ) (us : Trees) (ks : List ValueType) (i m : ℕ) →
+    DenoteAll items ns us → HaveAll c us ks → slice_get ns i ≡ Some m → OneOf c kernels frame items us m
+one_of c kernels frame items [] us ks i m ds h e = cc
+one_of c kernels frame items (n ∷ ns) none ks i m ds h e = absurd ds
+one_of c kernels frame items (n ∷ ns) (more u us) ks zero m (d, ds) h e =
     let (k, g) = first_has h in
     record { tree = u; kind = k; denotes = subst (λ (z : ℕ). Denotes items z u) (same_Some n m e) d; has = g; fault = λ f g. of_first g }
-one_of c frame items (n ∷ ns) (more u us) ks (suc i) m (d, ds) h e =
+one_of c kernels frame items (n ∷ ns) (more u us) ks (suc i) m (d, ds) h e =
     let (js, g) = rest_have h in
-    let o = one_of c frame items ns us js i m ds g e in
+    let o = one_of c kernels frame items ns us js i m ds g e in
     record { tree = o.tree; kind = o.kind; denotes = o.denotes; has = o.has; fault = λ f g. of_rest (o.fault f g) }
 
 -- what is known of an input of a checked place
-pub record InputAt (frame : List Contents) (items : List AExpr) (n m : ℕ) : Type 0 where
-  pub checked : IsCheckedAt frame items m
+pub record InputAt (kernels : List Kernel) (frame : List Contents) (items : List AExpr) (n m : ℕ) : Type 0 where
+  pub checked : IsCheckedAt (frame_catalog kernels frame) items m
   pub lighter : weight_at items m < weight_at items n
-  pub fault : (e : PlanError) → HasFaultAt frame items m e → HasFaultAt frame items n e
+  pub fault : (e : PlanError) → HasFaultAt kernels frame items m e → HasFaultAt kernels frame items n e
   pub apart : Reaches items m n → ⊥
   pub reaches : (p : ℕ) → Reaches items m p → Reaches items n p
 
 pub input_at :
-    (frame : List Contents) (items : List AExpr) (n i m : ℕ) (x : AExpr) → IsCheckedAt frame items n → slice_get items n ≡ Some x →
-    slice_get (inputs_of x) i ≡ Some m → InputAt frame items n m
-input_at frame items n i m x (t, d, (k, ok)) at ati =
-    let c = frame_catalog frame in
+    (kernels : List Kernel) (frame : List Contents) (items : List AExpr) (n i m : ℕ) (x : AExpr) → IsCheckedAt (frame_catalog kernels frame) items n → slice_get items n ≡ Some x →
+    slice_get (inputs_of x) i ≡ Some m → InputAt kernels frame items n m
+input_at kernels frame items n i m x (t, d, (k, ok)) at ati =
+    let c = frame_catalog kernels frame in
     let h = holds items n x t d at in
     let is_has : Has c (tree (root_of x) h.inputs) k = subst (λ (z : Tree). Has c z k) h.whole (HasKind-Has c t k ok) in
     let p = has_parts c (root_of x) h.inputs k is_has in
-    let o = one_of c frame items (inputs_of x) h.inputs p.kinds i m h.denote p.inputs ati in
+    let o = one_of c kernels frame items (inputs_of x) h.inputs p.kinds i m h.denote p.inputs ati in
     let within : IsIn m (inputs_of x) = is_in_at (inputs_of x) i m ati in
     record {
       checked = (o.tree, o.denotes, (o.kind, Has-HasKind c o.tree o.kind o.has));
       lighter = (has_input items n m x t d at within).lighter;
       fault = λ e f t' d'.
           let same : t ≡ t' = denotes_one items n t t' d d' in
-          let inner : HasFault [] frame (tree (root_of x) h.inputs) e = of_input (o.fault e (f o.tree o.denotes)) in
-          subst (λ (z : Tree). HasFault [] frame z e) same (subst (λ (z : Tree). HasFault [] frame z e) (sym h.whole) inner);
+          let inner : HasFault kernels frame (tree (root_of x) h.inputs) e = of_input (o.fault e (f o.tree o.denotes)) in
+          subst (λ (z : Tree). HasFault kernels frame z e) same (subst (λ (z : Tree). HasFault kernels frame z e) (sym h.whole) inner);
       apart = λ r. no_cycle items n m t x d at within r;
       reaches = λ q r. below x at within r;
     }
@@ -111,17 +112,17 @@ abbrev pub AllFilled : List (Option TypedRows) → List ℕ → Type 0
 AllFilled table ns = (j m : ℕ) → slice_get ns j ≡ Some m → IsSome (held table m)
 
 held_are :
-    (frame : List Contents) (items : List AExpr) (table : List (Option TypedRows)) (ns : List ℕ) (us : Trees) →
-    IsTable frame items table → DenoteAll items ns us → AllFilled table ns → map (held table) ns ≡ fold_trees (node_rows [] frame) us
-held_are frame items table [] none is ds f = refl
-held_are frame items table [] (more u us) is ds f = absurd ds
-held_are frame items table (n ∷ ns) none is ds f = absurd ds
-held_are frame items table (n ∷ ns) (more u us) is (d, ds) f =
+    (kernels : List Kernel) (frame : List Contents) (items : List AExpr) (table : List (Option TypedRows)) (ns : List ℕ) (us : Trees) →
+    IsTable kernels frame items table → DenoteAll items ns us → AllFilled table ns → map (held table) ns ≡ fold_trees (node_rows kernels frame) us
+held_are kernels frame items table [] none is ds f = refl
+held_are kernels frame items table [] (more u us) is ds f = absurd ds
+held_are kernels frame items table (n ∷ ns) none is ds f = absurd ds
+held_are kernels frame items table (n ∷ ns) (more u us) is (d, ds) f =
     let (v, e) = some_of (held table n) (f zero n refl) in
-    let a : rows [] frame u ≡ Some v = is.means n v e u d in
-    let b : held table n ≡ rows [] frame u = e ∙ sym a in
-    let r = held_are frame items table ns us is ds (λ j m g. f (suc j) m g) in
-    ap (λ (z : Option TypedRows). z ∷ map (held table) ns) b ∙ ap (λ (z : List (Option TypedRows)). rows [] frame u ∷ z) r
+    let a : rows kernels frame u ≡ Some v = is.means n v e u d in
+    let b : held table n ≡ rows kernels frame u = e ∙ sym a in
+    let r = held_are kernels frame items table ns us is ds (λ j m g. f (suc j) m g) in
+    ap (λ (z : Option TypedRows). z ∷ map (held table) ns) b ∙ ap (λ (z : List (Option TypedRows)). rows kernels frame u ∷ z) r
 
 all_some : (table : List (Option TypedRows)) (ns : List ℕ) → AllFilled table ns → (vs : List TypedRows) × (all_of (map (held table) ns) ≡ Some vs)
 all_some table [] f = ([], refl)
@@ -133,20 +134,20 @@ all_some table (n ∷ ns) f =
     )
 
 -- a checked place whose inputs are filled is ready, and what it gives is what its tree means
-pub record Ready (frame : List Contents) (items : List AExpr) (n : ℕ) (table : List (Option TypedRows)) (x : AExpr) : Type 0 where
-  pub ready : IsReady frame table x
-  pub means : (v : TypedRows) → node_gives frame table x ≡ Some v → (t : Tree) → Denotes items n t → rows [] frame t ≡ Some v
-  pub fault : (e : PlanError) → OwnFault [] frame (root_of x) (inputs_held table x) e → HasFaultAt frame items n e
+pub record Ready (kernels : List Kernel) (frame : List Contents) (items : List AExpr) (n : ℕ) (table : List (Option TypedRows)) (x : AExpr) : Type 0 where
+  pub ready : IsReady kernels frame table x
+  pub means : (v : TypedRows) → node_gives kernels frame table x ≡ Some v → (t : Tree) → Denotes items n t → rows kernels frame t ≡ Some v
+  pub fault : (e : PlanError) → OwnFault kernels frame (root_of x) (inputs_held table x) e → HasFaultAt kernels frame items n e
 
 pub place_ready :
-    (frame : List Contents) (items : List AExpr) (n : ℕ) (table : List (Option TypedRows)) (x : AExpr) → Fits frame (schema_of frame) → IsCheckedAt frame items n →
-    slice_get items n ≡ Some x → IsTable frame items table → AllFilled table (inputs_of x) → Ready frame items n table x
-place_ready frame items n table x fits (t, d, (k, ok)) at is filled =
-    let c = frame_catalog frame in
+    (kernels : List Kernel) (frame : List Contents) (items : List AExpr) (n : ℕ) (table : List (Option TypedRows)) (x : AExpr) → Fits frame (schema_of frame) → IsCheckedAt (frame_catalog kernels frame) items n →
+    slice_get items n ≡ Some x → IsTable kernels frame items table → AllFilled table (inputs_of x) → Ready kernels frame items n table x
+place_ready kernels frame items n table x fits (t, d, (k, ok)) at is filled =
+    let c = frame_catalog kernels frame in
     let h = holds items n x t d at in
     let is_has : Has c (tree (root_of x) h.inputs) k = subst (λ (z : Tree). Has c z k) h.whole (HasKind-Has c t k ok) in
     let p = has_parts c (root_of x) h.inputs k is_has in
-    let are : inputs_held table x ≡ fold_trees (node_rows [] frame) h.inputs = held_are frame items table (inputs_of x) h.inputs is h.denote filled in
+    let are : inputs_held table x ≡ fold_trees (node_rows kernels frame) h.inputs = held_are kernels frame items table (inputs_of x) h.inputs is h.denote filled in
     let (vs, g) = all_some table (inputs_of x) filled in
     record {
       ready = record {
@@ -159,17 +160,17 @@ place_ready frame items n table x fits (t, d, (k, ok)) at is filled =
       };
       means = λ v e t' d'.
           let same : t ≡ t' = denotes_one items n t t' d d' in
-          let inner : rows [] frame (tree (root_of x) h.inputs) ≡ Some v = sym (ap (node_rows [] frame (root_of x)) are) ∙ e in
-          subst (λ (z : Tree). rows [] frame z ≡ Some v) same (subst (λ (z : Tree). rows [] frame z ≡ Some v) (sym h.whole) inner);
+          let inner : rows kernels frame (tree (root_of x) h.inputs) ≡ Some v = sym (ap (node_rows kernels frame (root_of x)) are) ∙ e in
+          subst (λ (z : Tree). rows kernels frame z ≡ Some v) same (subst (λ (z : Tree). rows kernels frame z ≡ Some v) (sym h.whole) inner);
       fault = λ e f t' d'.
           let same : t ≡ t' = denotes_one items n t t' d d' in
-          let inner : HasFault [] frame (tree (root_of x) h.inputs) e = own (subst (λ (z : List (Option TypedRows)). OwnFault [] frame (root_of x) z e) are f) in
-          subst (λ (z : Tree). HasFault [] frame z e) same (subst (λ (z : Tree). HasFault [] frame z e) (sym h.whole) inner);
+          let inner : HasFault kernels frame (tree (root_of x) h.inputs) e = own (subst (λ (z : List (Option TypedRows)). OwnFault kernels frame (root_of x) z e) are f) in
+          subst (λ (z : Tree). HasFault kernels frame z e) same (subst (λ (z : Tree). HasFault kernels frame z e) (sym h.whole) inner);
     }
 
 -- how the table and the steps stand below a place
-pub record Grown (frame : List Contents) (items : List AExpr) (n : ℕ) (old new : List (Option TypedRows)) (s s' : ℕ) : Type 0 where
-  pub table : IsTable frame items new
+pub record Grown (kernels : List Kernel) (frame : List Contents) (items : List AExpr) (n : ℕ) (old new : List (Option TypedRows)) (s s' : ℕ) : Type 0 where
+  pub table : IsTable kernels frame items new
   pub kept : Keeps old new
   pub reached : FillsBelow items n old new
   pub ticks : s' + empty new ≡ s + empty old
@@ -181,8 +182,8 @@ nothing_held (Some v) h = absurd (h v refl)
 none_some : {A : Type 0} (o : Option A) (v : A) → o ≡ None → o ≡ Some v → ⊥
 none_some o v e f = cc
 
-pub grown_start : (frame : List Contents) (items : List AExpr) (n : ℕ) (old : List (Option TypedRows)) (s : ℕ) → IsTable frame items old → Grown frame items n old old s s
-grown_start frame items n old s is = record { table = is; kept = λ i v e. e; reached = λ p v e f. absurd (none_some (held old p) v e f); ticks = refl }
+pub grown_start : (kernels : List Kernel) (frame : List Contents) (items : List AExpr) (n : ℕ) (old : List (Option TypedRows)) (s : ℕ) → IsTable kernels frame items old → Grown kernels frame items n old old s s
+grown_start kernels frame items n old s is = record { table = is; kept = λ i v e. e; reached = λ p v e f. absurd (none_some (held old p) v e f); ticks = refl }
 
 pub option_cases : (o : Option TypedRows) → (o ≡ None) ⊎ ((v : TypedRows) × (o ≡ Some v))
 option_cases None = inl refl
@@ -190,9 +191,9 @@ option_cases (Some v) = inr (v, refl)
 
 -- an input was evaluated
 pub grown_input :
-    (frame : List Contents) (items : List AExpr) (n m : ℕ) (old mid new : List (Option TypedRows)) (s r s' : ℕ) →
-    InputAt frame items n m → Grown frame items n old mid s r → Grown frame items m mid new r s' → Grown frame items n old new s s'
-grown_input frame items n m old mid new s r s' input a b =
+    (kernels : List Kernel) (frame : List Contents) (items : List AExpr) (n m : ℕ) (old mid new : List (Option TypedRows)) (s r s' : ℕ) →
+    InputAt kernels frame items n m → Grown kernels frame items n old mid s r → Grown kernels frame items m mid new r s' → Grown kernels frame items n old new s s'
+grown_input kernels frame items n m old mid new s r s' input a b =
     let t1 : r + empty mid ≡ s + empty old = a.ticks in
     let t2 : s' + empty new ≡ r + empty mid = b.ticks in
     record {
@@ -208,9 +209,9 @@ grown_input frame items n m old mid new s r s' input a b =
 
 -- the place itself stays empty while its inputs are evaluated
 pub still_empty :
-    (frame : List Contents) (items : List AExpr) (n m : ℕ) (mid new : List (Option TypedRows)) →
-    InputAt frame items n m → FillsBelow items m mid new → held mid n ≡ None → held new n ≡ None
-still_empty frame items n m mid new input b e = nothing_held (held new n) (λ v f. input.apart (b n v e f))
+    (kernels : List Kernel) (frame : List Contents) (items : List AExpr) (n m : ℕ) (mid new : List (Option TypedRows)) →
+    InputAt kernels frame items n m → FillsBelow items m mid new → held mid n ≡ None → held new n ≡ None
+still_empty kernels frame items n m mid new input b e = nothing_held (held new n) (λ v f. input.apart (b n v e f))
 
 count_set : (table : List (Option TypedRows)) (n : ℕ) (v : TypedRows) → n < length table → held table n ≡ None → empty (set table n (Some v)) + 1 ≡ empty table
 count_set [] n v h e = absurd (omega arith)
@@ -220,14 +221,14 @@ count_set (Some w ∷ os) (suc n) v h e = let r = count_set os n v (omega arith)
 
 -- the place was filled with what its tree means
 pub grown_put :
-    (frame : List Contents) (items : List AExpr) (n : ℕ) (old mid new : List (Option TypedRows)) (v : TypedRows) (s r s' : ℕ) →
-    Grown frame items n old mid s r → held mid n ≡ None → n < length mid → new ≡ set mid n (Some v) → s' ≡ r + 1 →
-    ((t : Tree) → Denotes items n t → rows [] frame t ≡ Some v) → Grown frame items n old new s s'
-grown_put frame items n old mid new v s r s' a e h is tick means =
+    (kernels : List Kernel) (frame : List Contents) (items : List AExpr) (n : ℕ) (old mid new : List (Option TypedRows)) (v : TypedRows) (s r s' : ℕ) →
+    Grown kernels frame items n old mid s r → held mid n ≡ None → n < length mid → new ≡ set mid n (Some v) → s' ≡ r + 1 →
+    ((t : Tree) → Denotes items n t → rows kernels frame t ≡ Some v) → Grown kernels frame items n old new s s'
+grown_put kernels frame items n old mid new v s r s' a e h is tick means =
     let t1 : r + empty mid ≡ s + empty old = a.ticks in
     let t2 : empty (set mid n (Some v)) + 1 ≡ empty mid = count_set mid n v h e in
     let t3 : s' + empty (set mid n (Some v)) ≡ s + empty old = omega arith in
-    subst (λ (z : List (Option TypedRows)). Grown frame items n old z s s') (sym is)
+    subst (λ (z : List (Option TypedRows)). Grown kernels frame items n old z s s') (sym is)
     (record {
       table = record { long = length-set mid n (Some v) ∙ a.table.long; means = λ i w f t d. meant i w f t d (cases_eq i n) };
       kept = λ i w f. stays i w (a.kept i w f) (cases_eq i n);
@@ -238,7 +239,7 @@ grown_put frame items n old mid new v s r s' a e h is tick means =
     at_n : held (set mid n (Some v)) n ≡ Some v
     at_n = get_or-set_same mid n (Some v) None h
 
-    meant : (i : ℕ) (w : TypedRows) → held (set mid n (Some v)) i ≡ Some w → (t : Tree) → Denotes items i t → (i ≡ n) ⊎ (i ≢ n) → rows [] frame t ≡ Some w
+    meant : (i : ℕ) (w : TypedRows) → held (set mid n (Some v)) i ≡ Some w → (t : Tree) → Denotes items i t → (i ≡ n) ⊎ (i ≢ n) → rows kernels frame t ≡ Some w
     meant i w f t d (inl same) =
         let f2 : held (set mid n (Some v)) n ≡ Some w = subst (λ (z : ℕ). held (set mid n (Some v)) z ≡ Some w) same f in
         means t (subst (λ (z : ℕ). Denotes items z t) same d) ∙ (sym at_n ∙ f2)
@@ -253,24 +254,24 @@ grown_put frame items n old mid new v s r s' a e h is tick means =
     from p w f g (inr ne) = a.reached p w f (sym (get_or-set_other mid n p (Some v) None ne) ∙ g)
 
 -- the first i inputs are filled, and the place is not
-pub record Progress (frame : List Contents) (items : List AExpr) (n : ℕ) (x : AExpr) (i : ℕ) (old new : List (Option TypedRows)) (s s' : ℕ) : Type 0 where
-  pub grown : Grown frame items n old new s s'
+pub record Progress (kernels : List Kernel) (frame : List Contents) (items : List AExpr) (n : ℕ) (x : AExpr) (i : ℕ) (old new : List (Option TypedRows)) (s s' : ℕ) : Type 0 where
+  pub grown : Grown kernels frame items n old new s s'
   pub own : held new n ≡ None
   pub filled : (j m : ℕ) → j < i → slice_get (inputs_of x) j ≡ Some m → IsSome (held new m)
 
 pub progress_start :
-    (frame : List Contents) (items : List AExpr) (n : ℕ) (x : AExpr) (old : List (Option TypedRows)) (s : ℕ) → IsTable frame items old → held old n ≡ None →
-    Progress frame items n x 0 old old s s
-progress_start frame items n x old s is e = record { grown = grown_start frame items n old s is; own = e; filled = λ j m h g. absurd (omega arith) }
+    (kernels : List Kernel) (frame : List Contents) (items : List AExpr) (n : ℕ) (x : AExpr) (old : List (Option TypedRows)) (s : ℕ) → IsTable kernels frame items old → held old n ≡ None →
+    Progress kernels frame items n x 0 old old s s
+progress_start kernels frame items n x old s is e = record { grown = grown_start kernels frame items n old s is; own = e; filled = λ j m h g. absurd (omega arith) }
 
 pub progress_more :
-    (frame : List Contents) (items : List AExpr) (n : ℕ) (x : AExpr) (i m : ℕ) (old mid new : List (Option TypedRows)) (s r s' : ℕ) →
-    InputAt frame items n m → slice_get (inputs_of x) i ≡ Some m → Progress frame items n x i old mid s r → Grown frame items m mid new r s' → IsSome (held new m) →
-    Progress frame items n x (i + 1) old new s s'
-progress_more frame items n x i m old mid new s r s' input ati a b got =
+    (kernels : List Kernel) (frame : List Contents) (items : List AExpr) (n : ℕ) (x : AExpr) (i m : ℕ) (old mid new : List (Option TypedRows)) (s r s' : ℕ) →
+    InputAt kernels frame items n m → slice_get (inputs_of x) i ≡ Some m → Progress kernels frame items n x i old mid s r → Grown kernels frame items m mid new r s' → IsSome (held new m) →
+    Progress kernels frame items n x (i + 1) old new s s'
+progress_more kernels frame items n x i m old mid new s r s' input ati a b got =
     record {
-      grown = grown_input frame items n m old mid new s r s' input a.grown b;
-      own = still_empty frame items n m mid new input b.reached a.own;
+      grown = grown_input kernels frame items n m old mid new s r s' input a.grown b;
+      own = still_empty kernels frame items n m mid new input b.reached a.own;
       filled = λ j q h g. go j q h g (cases_eq j i);
     }
   where
@@ -283,36 +284,35 @@ progress_more frame items n x i m old mid new s r s' input ati a b got =
         is_some_of (held new q) v (b.kept q v e)
 
 pub all_filled :
-    (frame : List Contents) (items : List AExpr) (n : ℕ) (x : AExpr) (i : ℕ) (old new : List (Option TypedRows)) (s s' : ℕ) → length (inputs_of x) ≤ i →
-    Progress frame items n x i old new s s' → AllFilled new (inputs_of x)
-all_filled frame items n x i old new s s' h a j m e =
+    (kernels : List Kernel) (frame : List Contents) (items : List AExpr) (n : ℕ) (x : AExpr) (i : ℕ) (old new : List (Option TypedRows)) (s s' : ℕ) → length (inputs_of x) ≤ i →
+    Progress kernels frame items n x i old new s s' → AllFilled new (inputs_of x)
+all_filled kernels frame items n x i old new s s' h a j m e =
     let w : j < length (inputs_of x) = slice_get_within (inputs_of x) j m e in
     a.filled j m (omega arith) e
 
 -- the error of an input, as one of the place
 pub input_error :
-    (frame : List Contents) (items : List AExpr) (n m : ℕ) (e : PlanError) → InputAt frame items n m →
-    (e ≡ OutOfMemory) ⊎ HasFaultAt frame items m e → (e ≡ OutOfMemory) ⊎ HasFaultAt frame items n e
-input_error frame items n m e input (inl h) = inl h
-input_error frame items n m e input (inr h) = inr (input.fault e h)
+    (kernels : List Kernel) (frame : List Contents) (items : List AExpr) (n m : ℕ) (e : PlanError) → InputAt kernels frame items n m →
+    (e ≡ OutOfMemory) ⊎ HasFaultAt kernels frame items m e → (e ≡ OutOfMemory) ⊎ HasFaultAt kernels frame items n e
+input_error kernels frame items n m e input (inl h) = inl h
+input_error kernels frame items n m e input (inr h) = inr (input.fault e h)
 
 pub own_error :
-    (frame : List Contents) (items : List AExpr) (n : ℕ) (table : List (Option TypedRows)) (x : AExpr) (e : PlanError) → Ready frame items n table x →
-    IsReason frame table x e → (e ≡ OutOfMemory) ⊎ HasFaultAt frame items n e
-own_error frame items n table x e r (inl h) = inl h
-own_error frame items n table x e r (inr h) = inr (r.fault e h)
+    (kernels : List Kernel) (frame : List Contents) (items : List AExpr) (n : ℕ) (table : List (Option TypedRows)) (x : AExpr) (e : PlanError) → Ready kernels frame items n table x →
+    IsReason kernels frame table x e → (e ≡ OutOfMemory) ⊎ HasFaultAt kernels frame items n e
+own_error kernels frame items n table x e r (inl h) = inl h
+own_error kernels frame items n table x e r (inr h) = inr (r.fault e h)
 
 -- the whole step of a place
 pub filled_place :
-    (frame : List Contents) (items : List AExpr) (n : ℕ) (x : AExpr) (i : ℕ) (old mid new : List (Option TypedRows)) (r : Rows) (s u s' : ℕ) →
-    Progress frame items n x i old mid s u → Ready frame items n mid x → IsAnswer frame mid x r → n < length items → new ≡ set mid n (answer_rows mid r) → s' ≡ u + 1 →
-    Grown frame items n old new s s' × IsSome (held new n)
-filled_place frame items n x i old mid new r s u s' p ready a within is tick =
+    (kernels : List Kernel) (frame : List Contents) (items : List AExpr) (n : ℕ) (x : AExpr) (i : ℕ) (old mid new : List (Option TypedRows)) (r : Rows) (s u s' : ℕ) →
+    Progress kernels frame items n x i old mid s u → Ready kernels frame items n mid x → IsAnswer kernels frame mid x r → n < length items → new ≡ set mid n (Some (values_of r)) → s' ≡ u + 1 →
+    Grown kernels frame items n old new s s' × IsSome (held new n)
+filled_place kernels frame items n x i old mid new r s u s' p ready a within is tick =
     let long : length mid ≡ length items = p.grown.table.long in
-    let h : n < length mid = omega arith in
-    let is2 : new ≡ set mid n (Some a.rows) = is ∙ ap (set mid n) a.answers in (
-      grown_put frame items n old mid new a.rows s u s' p.grown p.own h is2 tick (ready.means a.rows a.gives),
-      is_some_of (held new n) a.rows (ap (λ (z : List (Option TypedRows)). held z n) is2 ∙ get_or-set_same mid n (Some a.rows) None h),
+    let h : n < length mid = omega arith in (
+      grown_put kernels frame items n old mid new (values_of r) s u s' p.grown p.own h is tick (ready.means (values_of r) a),
+      is_some_of (held new n) (values_of r) (ap (λ (z : List (Option TypedRows)). held z n) is ∙ get_or-set_same mid n (Some (values_of r)) None h),
     )
 
 pub empty_of : (o : Option TypedRows) → is_some o ≡ false → o ≡ None

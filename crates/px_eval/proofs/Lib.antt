@@ -1,4 +1,4 @@
-pub mod Tables
 pub mod Fills
 pub mod Single
 pub mod Roots
+pub mod Columns

@@ -1,24 +1,19 @@
 -- The roots are evaluated one after the other.
-use Rattle.std.proofs.Common.{◌≡◌, ◌≢◌, ◌⊎◌, inl, inr, ◌+◌, ◌<◌, ◌≤◌, ℕ, zero, suc, List, [], ◌∷◌, map, length, get_or, take, replicate, Option, Some, None, Result, Ok, Err, refl, sym, ◌∙◌, ap, subst, arith}
+use Rattle.std.proofs.Common.{◌≡◌, ◌≢◌, ◌⊎◌, inl, inr, ◌+◌, ◌<◌, ◌≤◌, ℕ, zero, suc, List, [], ◌∷◌, length, get_or, replicate, Option, Some, None, refl, sym, ◌∙◌, subst, arith}
 use Rattle.std.specs.Prelude.{IsSome, slice_get}
-use Rattle.std.specs.List.{All}
 use Rattle.std.proofs.lemmas.Bool.{cases_eq}
 use Rattle.std.proofs.lemmas.Option.{same_Some}
 use Rattle.px_base.specs.declared.error.PlanError.{PlanError}
 use Rattle.px_base.specs.declared.error.PlanError.TheVariants.{OutOfMemory}
 use Rattle.px_types.specs.Rows.{TypedRows, Contents}
-use Rattle.px_expr.specs.Tree.{Tree}
-use Rattle.px_meaning.specs.Mean.{rows}
-use Rattle.px_meaning.specs.Schema.{Fits, schema_of}
-use Rattle.px_meaning.proofs.Nothing.{fault-nothing}
-use Rattle.px_meaning.proofs.Typing.{HasKind-Has}
+use Rattle.px_expr.specs.Kernel.{Kernel}
 use Rattle.px_arena.specs.declared.node.AExpr.{AExpr}
 use Rattle.px_arena.specs.declared.node.Node.{Node}
-use Rattle.px_arena.specs.Denotes.{Denotes, IsIn, first, later, Reaches}
-use Rattle.px_arena.proofs.Measure.{TakenOut, take_out}
+use Rattle.px_arena.specs.Denotes.{IsIn, first, later, Reaches}
+use Rattle.px_arena.proofs.Measure.{take_out}
 use Rattle.px_eval.specs.Table.{held}
-use Rattle.px_eval.specs.Own.{frame_catalog}
-use Rattle.px_eval.specs.Fills.{IsCheckedAt, IsTable, Keeps, FillsBelow, empty, HasFaultAt, root_places, HoldsRoots, RootHasFault, AllMean, HasTicked}
+use Rattle.px_rules.specs.Plan.{places}
+use Rattle.px_eval.specs.Fills.{IsTable, empty, HasFaultAt, HoldsRoots, RootHasFault, HasTicked}
 use Rattle.px_eval.proofs.Fills.{Grown, some_of, is_some_of, option_cases}
 
 empty_new : (n : ℕ) → empty (replicate n None) ≡ n
@@ -48,15 +43,15 @@ counted (Some w ∷ t) off ps all =
     omega arith
 
 -- the first i roots are filled
-pub record Rooted (frame : List Contents) (items : List AExpr) (ns : List ℕ) (i : ℕ) (new : List (Option TypedRows)) (s s' : ℕ) : Type 0 where
-  pub table : IsTable frame items new
+pub record Rooted (kernels : List Kernel) (frame : List Contents) (items : List AExpr) (ns : List ℕ) (i : ℕ) (new : List (Option TypedRows)) (s s' : ℕ) : Type 0 where
+  pub table : IsTable kernels frame items new
   pub reached : (p : ℕ) (v : TypedRows) → held new p ≡ Some v → (n : ℕ) × IsIn n ns × Reaches items n p
   pub ticks : s' + empty new ≡ s + length items
   pub filled : (j m : ℕ) → j < i → slice_get ns j ≡ Some m → IsSome (held new m)
 
-pub rooted_start : (frame : List Contents) (items : List AExpr) (ns : List ℕ) (table : List (Option TypedRows)) (k s : ℕ) → k ≡ length items → table ≡ replicate k None → Rooted frame items ns 0 table s s
-rooted_start frame items ns table k s e is =
-    subst (λ (z : List (Option TypedRows)). Rooted frame items ns 0 z s s) (sym is)
+pub rooted_start : (kernels : List Kernel) (frame : List Contents) (items : List AExpr) (ns : List ℕ) (table : List (Option TypedRows)) (k s : ℕ) → k ≡ length items → table ≡ replicate k None → Rooted kernels frame items ns 0 table s s
+rooted_start kernels frame items ns table k s e is =
+    subst (λ (z : List (Option TypedRows)). Rooted kernels frame items ns 0 z s s) (sym is)
     (record {
       table = record { long = length_new k ∙ e; means = λ i v f t d. absurd (held_new k i v f) };
       reached = λ p v f. absurd (held_new k p v f);
@@ -64,12 +59,12 @@ rooted_start frame items ns table k s e is =
       filled = λ j m h g. absurd (omega arith);
     })
 
-pub in_roots : (roots : List Node) (i : ℕ) (d : Node) → i < length roots → slice_get (root_places roots) i ≡ Some (get_or roots i d).0
+pub in_roots : (roots : List Node) (i : ℕ) (d : Node) → i < length roots → slice_get (places roots) i ≡ Some (get_or roots i d).0
 in_roots [] i d h = absurd (omega arith)
 in_roots (r ∷ rs) zero d h = refl
 in_roots (r ∷ rs) (suc i) d h = in_roots rs i d (omega arith)
 
-pub length_places : (roots : List Node) → length (root_places roots) ≡ length roots
+pub length_places : (roots : List Node) → length (places roots) ≡ length roots
 length_places [] = refl
 length_places (r ∷ rs) = let h = length_places rs in omega arith
 
@@ -79,9 +74,9 @@ at_in (n ∷ ns) zero m e = subst (λ (z : ℕ). IsIn z (n ∷ ns)) (same_Some n
 at_in (n ∷ ns) (suc k) m e = later (at_in ns k m e)
 
 pub rooted_more :
-    (frame : List Contents) (items : List AExpr) (ns : List ℕ) (i m : ℕ) (mid new : List (Option TypedRows)) (s r s' : ℕ) →
-    slice_get ns i ≡ Some m → Rooted frame items ns i mid s r → Grown frame items m mid new r s' → IsSome (held new m) → Rooted frame items ns (i + 1) new s s'
-rooted_more frame items ns i m mid new s r s' at a b got =
+    (kernels : List Kernel) (frame : List Contents) (items : List AExpr) (ns : List ℕ) (i m : ℕ) (mid new : List (Option TypedRows)) (s r s' : ℕ) →
+    slice_get ns i ≡ Some m → Rooted kernels frame items ns i mid s r → Grown kernels frame items m mid new r s' → IsSome (held new m) → Rooted kernels frame items ns (i + 1) new s s'
+rooted_more kernels frame items ns i m mid new s r s' at a b got =
     let t1 : r + empty mid ≡ s + length items = a.ticks in
     let t2 : s' + empty new ≡ r + empty mid = b.ticks in
     record {
@@ -105,9 +100,9 @@ rooted_more frame items ns i m mid new s r s' at a b got =
 
 -- where the next root fails
 pub rooted_failed :
-    (frame : List Contents) (items : List AExpr) (ns : List ℕ) (i m : ℕ) (mid new : List (Option TypedRows)) (s r s' : ℕ) →
-    slice_get ns i ≡ Some m → Rooted frame items ns i mid s r → Grown frame items m mid new r s' → Rooted frame items ns 0 new s s'
-rooted_failed frame items ns i m mid new s r s' at a b =
+    (kernels : List Kernel) (frame : List Contents) (items : List AExpr) (ns : List ℕ) (i m : ℕ) (mid new : List (Option TypedRows)) (s r s' : ℕ) →
+    slice_get ns i ≡ Some m → Rooted kernels frame items ns i mid s r → Grown kernels frame items m mid new r s' → Rooted kernels frame items ns 0 new s s'
+rooted_failed kernels frame items ns i m mid new s r s' at a b =
     let t1 : r + empty mid ≡ s + length items = a.ticks in
     let t2 : s' + empty new ≡ r + empty mid = b.ticks in
     record {
@@ -121,12 +116,28 @@ rooted_failed frame items ns i m mid new s r s' at a b =
     from p v e (inl g) = (m, at_in ns i m at, b.reached p v g e)
     from p v e (inr (w, g)) = a.reached p w g
 
-pub rooted_ticks : (frame : List Contents) (items : List AExpr) (ns : List ℕ) (i : ℕ) (table : List (Option TypedRows)) (s s' : ℕ) → Rooted frame items ns i table s s' → HasTicked items ns s s'
-rooted_ticks frame items ns i table s s' a ps all =
-    let h : length table ≤ empty table + length ps = counted table 0 ps (λ p v e. let (n, w, r) = a.reached p v e in subst (λ (z : ℕ). IsIn z ps) (let u : p ≡ 0 + p = omega arith in u) (all n p w r)) in
+empty_within : (table : List (Option TypedRows)) → empty table ≤ length table
+empty_within [] = omega arith
+empty_within (None ∷ t) = let h = empty_within t in omega arith
+empty_within (Some v ∷ t) = let h = empty_within t in omega arith
+
+pub rooted_ticks : (kernels : List Kernel) (frame : List Contents) (items : List AExpr) (ns : List ℕ) (i : ℕ) (table : List (Option TypedRows)) (s s' : ℕ) → Rooted kernels frame items ns i table s s' → HasTicked items ns s s'
+rooted_ticks kernels frame items ns i table s s' a =
     let l : length table ≡ length items = a.table.long in
     let t : s' + empty table ≡ s + length items = a.ticks in
-    omega arith
+    let w : empty table ≤ length table = empty_within table in
+    record {
+      least = omega arith;
+      most = λ ps all. bound ps all l t;
+    }
+  where
+    bound : (ps : List ℕ) → ((n p : ℕ) → IsIn n ns → Reaches items n p → IsIn p ps) → length table ≡ length items → s' + empty table ≡ s + length items → s' ≤ s + length ps
+    bound ps all l t =
+        let h : length table ≤ empty table + length ps = counted table 0 ps (λ p v e. let (n, w, r) = a.reached p v e in subst (λ (z : ℕ). IsIn z ps) (let u : p ≡ 0 + p = omega arith in u) (all n p w r)) in
+        omega arith
+
+pub no_ticks : (items : List AExpr) (ns : List ℕ) (s : ℕ) → HasTicked items ns s s
+no_ticks items ns s = record { least = omega arith; most = λ ps all. omega arith }
 
 record IsAt (ns : List ℕ) (m : ℕ) : Type 0 where
   index : ℕ
@@ -139,39 +150,16 @@ in_at (_ ∷ ns) m first = record { index = zero; within = omega arith; at = ref
 in_at (n ∷ ns) m (later i) = let h = in_at ns m i in let w : h.index < length ns = h.within in record { index = suc h.index; within = omega arith; at = h.at }
 
 pub rooted_means :
-    (frame : List Contents) (items : List AExpr) (ns : List ℕ) (i : ℕ) (table : List (Option TypedRows)) (s s' : ℕ) → length ns ≤ i →
-    Rooted frame items ns i table s s' → HoldsRoots frame items ns table
-rooted_means frame items ns i table s s' long a n w =
+    (kernels : List Kernel) (frame : List Contents) (items : List AExpr) (ns : List ℕ) (i : ℕ) (table : List (Option TypedRows)) (s s' : ℕ) → length ns ≤ i →
+    Rooted kernels frame items ns i table s s' → HoldsRoots kernels frame items ns table
+rooted_means kernels frame items ns i table s s' long a n w =
     let h = in_at ns n w in
     let g : h.index < length ns = h.within in
     let (v, e) = some_of (held table n) (a.filled h.index n (omega arith) h.at) in
     (v, e, λ t d. a.table.means n v e t d)
 
--- an error where every root means rows is want of memory
-pub error_complete :
-    (frame : List Contents) (items : List AExpr) (ns : List ℕ) (e : PlanError) → Fits frame (schema_of frame) → ((n : ℕ) → IsIn n ns → IsCheckedAt frame items n) →
-    AllMean frame items ns → (e ≡ OutOfMemory) ⊎ RootHasFault frame items ns e → e ≡ OutOfMemory
-error_complete frame items ns e fits checked all (inl h) = h
-error_complete frame items ns e fits checked all (inr (n, w, f)) =
-    let (t, d, (k, ok)) = checked n w in
-    let (v, is) = all n w t d in
-    let nothing = fault-nothing (frame_catalog frame) frame fits t k (HasKind-Has (frame_catalog frame) t k ok) e (f t d) in
-    absurd (differ (rows [] frame t) v nothing is)
-  where
-    differ : (o : Option TypedRows) (v : TypedRows) → o ≡ None → o ≡ Some v → ⊥
-    differ o v a b = cc
-
 pub root_error :
-    (frame : List Contents) (items : List AExpr) (ns : List ℕ) (i m : ℕ) (e : PlanError) → slice_get ns i ≡ Some m → (e ≡ OutOfMemory) ⊎ HasFaultAt frame items m e →
-    (e ≡ OutOfMemory) ⊎ RootHasFault frame items ns e
-root_error frame items ns i m e at (inl h) = inl h
-root_error frame items ns i m e at (inr f) = inr (m, at_in ns i m at, f)
-
-pub all_taken : {A : Type 0} (P : A → Type 0) (xs : List A) (i : ℕ) → length xs ≤ i → All P (take i xs) → All P xs
-all_taken P xs i h all = subst (λ (z : List _). All P z) (taken xs i h) all
-  where
-    taken : {A : Type 0} (xs : List A) (i : ℕ) → length xs ≤ i → take i xs ≡ xs
-    taken [] zero h = refl
-    taken [] (suc i) h = refl
-    taken (x ∷ xs) zero h = absurd (omega arith)
-    taken (x ∷ xs) (suc i) h = ap (λ (z : List _). x ∷ z) (taken xs i (omega arith))
+    (kernels : List Kernel) (frame : List Contents) (items : List AExpr) (ns : List ℕ) (i m : ℕ) (e : PlanError) → slice_get ns i ≡ Some m → (e ≡ OutOfMemory) ⊎ HasFaultAt kernels frame items m e →
+    (e ≡ OutOfMemory) ⊎ RootHasFault kernels frame items ns e
+root_error kernels frame items ns i m e at (inl h) = inl h
+root_error kernels frame items ns i m e at (inr f) = inr (m, at_in ns i m at, f)

@@ -3,20 +3,17 @@ use Rattle.std.proofs.Common.{◌≡◌, ◌⊎◌, inl, inr, ◌<◌, ◌||◌,
 use Rattle.std.specs.Prelude.{option_and_then, option_map, IfOk, IfErr, IsSome, is_some, slice_get}
 use Rattle.px_base.specs.declared.error.PlanError.{PlanError}
 use Rattle.px_base.specs.declared.error.PlanError.TheVariants.{OutOfMemory, ShapeMismatch, InvalidCast, InvalidOperation}
-use Rattle.px_types.proofs.CastLemmas.{holds_decides}
-use Rattle.px_types.specs.Arithmetic.{arith_rows}
 use Rattle.px_types.specs.Casts.{HasCast, IsScalar, cast_to}
 use Rattle.px_types.specs.Choices.{choose_rows}
-use Rattle.px_types.specs.Classes.{is_number, is_integer_value}
+use Rattle.px_types.specs.Classes.{is_integer_value}
 use Rattle.px_types.specs.Fused.{fused_rows}
 use Rattle.px_types.specs.declared.function.FusedOperator.{FusedOperator}
 use Rattle.px_types.specs.Integers.{IsInteger}
 use Rattle.px_types.specs.Logic.{logic_rows, logic_row}
-use Rattle.px_types.specs.Rows.{TypedRows, Contents, Row, IsBoolean, joined_rows}
+use Rattle.px_types.specs.Rows.{TypedRows, Contents, IsBoolean, joined_rows}
 use Rattle.px_types.specs.ValueTypes.{value_type_of}
 use Rattle.px_types.specs.declared.dtype.DataType.{DataType}
 use Rattle.px_types.specs.declared.kinds.CastOptions.{CastOptions}
-use Rattle.px_types.specs.declared.kinds.CastOptions.TheVariants.{Strict}
 use Rattle.px_base.specs.declared.list.List.{List as Entries}
 use Rattle.px_types.specs.declared.options.FunctionOptions.{FunctionOptions}
 use Rattle.px_types.specs.declared.function.BooleanFunction.TheVariants.{IsNull, IsNotNull, Not}
@@ -26,6 +23,7 @@ use Rattle.px_types.specs.declared.operator.Operator.{Operator}
 use Rattle.px_types.specs.declared.operator.Operator.TheVariants as op
 use Rattle.px_types.specs.declared.value_type.ValueType.{ValueType}
 use Rattle.px_types.specs.declared.value_type.ValueType.TheVariants as kind
+use Rattle.px_expr.specs.Kernel.{Kernel}
 use Rattle.px_expr.specs.Tree.{Node as Root}
 use Rattle.px_expr.specs.Tree as root
 use Rattle.px_meaning.specs.Faults.{OwnFault, uneven, lossy, is_joining}
@@ -36,8 +34,7 @@ use Rattle.px_types.specs.Frames.{column_named}
 use Rattle.px_expr.specs.declared.literal.LiteralValue.{LiteralValue}
 use Rattle.px_meaning.specs.Signatures.{group_of, group_type, boolean_type, cast_type, is_type, is_castable, literal_type, Known, Signature, signature, function_signature}
 use Rattle.px_meaning.proofs.Answers.{given-parts, from_option}
-use Rattle.px_meaning.proofs.ColumnTypes.{IsColumnOf}
-use Rattle.px_meaning.proofs.Means.{AreColumns, one_column, two_columns, three_columns}
+use Rattle.px_meaning.proofs.Means.{one_column, two_columns, three_columns}
 use Rattle.px_meaning.proofs.Nothing.{explains, all_of-is}
 use Rattle.px_meaning.proofs.Types.{Takes, is_null-types, is_not_null-types, not-types, negate-types, fused-types, alias-types, literal-types, binary-types, cast-types, ternary-types}
 use Rattle.px_meaning.proofs.Typing.{is_type-is}
@@ -47,18 +44,17 @@ use Rattle.px_arena.specs.declared.node.ExprIR.{ExprIR}
 use Rattle.px_arena.specs.declared.node.Node.{Node}
 use Rattle.px_arena.specs.Denotes.{root_of, inputs_of, expr_places}
 use Rattle.px_eval.specs.declared.table.Rows.{Rows}
-use Rattle.px_eval.specs.declared.table.Rows.TheVariants as rows
-use Rattle.px_eval.specs.Table.{held, answer_rows, IsOf}
-use Rattle.px_eval.specs.Own.{frame_catalog, inputs_held, IsReady, IsAnswer, IsReason, IsOwned, IsAnyAnswer, GivesRows, fault_of, node_gives, TakesTwo, TakesOne, IsFunction, IsOfOne}
+use Rattle.px_eval.specs.Table.{held, values_of}
+use Rattle.px_eval.specs.Own.{frame_catalog, inputs_held, IsReady, IsAnswer, IsReason, IsOwned, GivesRows, fault_of, node_gives, TakesTwo, TakesOne, IsFunction, IsOfOne}
 
 -- the only fault of a node itself
-only_fault : (frame : List Contents) (n : Root) (ms : List (Option TypedRows)) (f : PlanError) → OwnFault [] frame n ms f → f ≡ fault_of n
-only_fault frame n ms _ (uneven joins h) = joining n joins
+only_fault : (kernels : List Kernel) (frame : List Contents) (n : Root) (ms : List (Option TypedRows)) (f : PlanError) → OwnFault kernels frame n ms f → f ≡ fault_of n
+only_fault kernels frame n ms _ (uneven joins h) = joining n joins
   where
     joining : (n : Root) → is_joining n ≡ true → ShapeMismatch ≡ fault_of n
     joining (root.Cast dtype options) e = cc
     joining _ e = refl
-only_fault frame _ ms _ (lossy to e h) = refl
+only_fault kernels frame _ ms _ (lossy to e h) = refl
 
 -- the node is not of the core language
 abbrev pub IsOutside : AExpr → Type 0
@@ -71,36 +67,35 @@ IsOutside ir.Len = Unit {0}
 IsOutside _ = ⊥
 
 -- what a node gives, and its fault
-pub record Case (frame : List Contents) (table : List (Option TypedRows)) (x : AExpr) (w : Option TypedRows) (f : PlanError) : Type 0 where
-  pub gives : node_gives frame table x ≡ w
+pub record Case (kernels : List Kernel) (frame : List Contents) (table : List (Option TypedRows)) (x : AExpr) (w : Option TypedRows) (f : PlanError) : Type 0 where
+  pub gives : node_gives kernels frame table x ≡ w
   pub fault : f ≡ fault_of (root_of x)
 
-module _ (frame : List Contents) (fits : Fits frame (schema_of frame)) (table : List (Option TypedRows)) where
-  gives_of : (x : AExpr) (r : IsReady frame table x) → node_gives frame table x ≡ own_rows [] frame (root_of x) r.columns
-  gives_of x r = ap (option_and_then (own_rows [] frame (root_of x))) r.all
+module _ (kernels : List Kernel) (frame : List Contents) (fits : Fits frame (schema_of frame)) (table : List (Option TypedRows)) where
+  gives_of : (x : AExpr) (r : IsReady kernels frame table x) → node_gives kernels frame table x ≡ own_rows kernels frame (root_of x) r.columns
+  gives_of x r = ap (option_and_then (own_rows kernels frame (root_of x))) r.all
 
-  fails : (x : AExpr) → IsReady frame table x → node_gives frame table x ≡ None → OwnFault [] frame (root_of x) (inputs_held table x) (fault_of (root_of x))
+  fails : (x : AExpr) → IsReady kernels frame table x → node_gives kernels frame table x ≡ None → OwnFault kernels frame (root_of x) (inputs_held table x) (fault_of (root_of x))
   fails x r e =
-      let (f, h) = explains (frame_catalog frame) frame fits (root_of x) r.kinds r.kind r.columns r.takes r.typed (sym (gives_of x r) ∙ e) in
+      let (f, h) = explains (frame_catalog kernels frame) frame fits (root_of x) r.kinds r.kind r.columns r.takes r.typed (sym (gives_of x r) ∙ e) in
       let o = h (inputs_held table x) r.all in
-      subst (λ (z : PlanError). OwnFault [] frame (root_of x) (inputs_held table x) z) (only_fault frame (root_of x) (inputs_held table x) f o) o
+      subst (λ (z : PlanError). OwnFault kernels frame (root_of x) (inputs_held table x) z) (only_fault kernels frame (root_of x) (inputs_held table x) f o) o
 
   pub owned_ok :
-      (x : AExpr) (r : Result Rows PlanError) (c : Result Contents PlanError) (w : Option TypedRows) (f : PlanError) → IsOwned r c → GivesRows f c w → Case frame table x w f →
-      IfOk r (λ a. IsAnswer frame table x a)
-  owned_ok x (Ok r) (Ok c) w f o g h =
-      subst (λ (z : Rows). IsAnswer frame table x z) (sym o) (record { within = tt; rows = c.values; gives = h.gives ∙ g; answers = refl })
+      (x : AExpr) (r : Result Rows PlanError) (c : Result Contents PlanError) (w : Option TypedRows) (f : PlanError) → IsOwned r c → GivesRows f c w → Case kernels frame table x w f →
+      IfOk r (λ a. IsAnswer kernels frame table x a)
+  owned_ok x (Ok r) (Ok c) w f o g h = h.gives ∙ (g ∙ ap Some (sym o))
   owned_ok x (Ok r) (Err e) w f o g h = absurd o
   owned_ok x (Err e) c w f o g h = tt
 
   pub owned_err :
-      (x : AExpr) (r : Result Rows PlanError) (c : Result Contents PlanError) (w : Option TypedRows) (f : PlanError) → IsReady frame table x → IsOwned r c → GivesRows f c w →
-      Case frame table x w f → IfErr r (λ e. IsReason frame table x e)
+      (x : AExpr) (r : Result Rows PlanError) (c : Result Contents PlanError) (w : Option TypedRows) (f : PlanError) → IsReady kernels frame table x → IsOwned r c → GivesRows f c w →
+      Case kernels frame table x w f → IfErr r (λ e. IsReason kernels frame table x e)
   owned_err x (Ok r) c w f ready o g h = tt
-  owned_err x (Err e) (Ok c) w f ready o g h = absurd o
+  owned_err x (Err e) (Ok c) w f ready o g h = inl o
   owned_err x (Err e) (Err d) w f ready o (inl g) h = inl (o ∙ g)
   owned_err x (Err e) (Err d) w f ready o (inr (g, n)) h =
-      inr (subst (λ (z : PlanError). OwnFault [] frame (root_of x) (inputs_held table x) z) (sym (o ∙ (g ∙ h.fault))) (fails x ready (h.gives ∙ n)))
+      inr (subst (λ (z : PlanError). OwnFault kernels frame (root_of x) (inputs_held table x) z) (sym (o ∙ (g ∙ h.fault))) (fails x ready (h.gives ∙ n)))
 
   columns_one : (m : Option TypedRows) (vs : List TypedRows) (a : TypedRows) → all_of (m ∷ []) ≡ Some vs → m ≡ Some a → vs ≡ a ∷ []
   columns_one m vs a e h = let s : Some vs ≡ Some (a ∷ []) = sym e ∙ ap (λ (z : Option TypedRows). all_of (z ∷ [])) h in cc
@@ -116,11 +111,11 @@ module _ (frame : List Contents) (fits : Fits frame (schema_of frame)) (table : 
       sym e ∙ (ap (λ (z : Option TypedRows). all_of (z ∷ n ∷ o ∷ [])) h ∙ (ap (λ (z : Option TypedRows). all_of (Some a ∷ z ∷ o ∷ [])) i ∙ ap (λ (z : Option TypedRows). all_of (Some a ∷ Some b ∷ z ∷ [])) j)) in cc
 
   binary_at :
-      (l r : Node) (o : Operator) (a b : TypedRows) → IsReady frame table (ir.BinaryExpr l o r) → held table l.0 ≡ Some a → held table r.0 ≡ Some b →
-      Case frame table (ir.BinaryExpr l o r) (group_rows (group_of o) o a b) ShapeMismatch × TakesTwo o a.kind b.kind
+      (l r : Node) (o : Operator) (a b : TypedRows) → IsReady kernels frame table (ir.BinaryExpr l o r) → held table l.0 ≡ Some a → held table r.0 ≡ Some b →
+      Case kernels frame table (ir.BinaryExpr l o r) (group_rows (group_of o) o a b) ShapeMismatch × TakesTwo o a.kind b.kind
   binary_at l r o a b ready ha hb =
       let are = columns_two (held table l.0) (held table r.0) ready.columns a b ready.all ha hb in
-      let (j, f, g) = binary-types (frame_catalog frame) o ready.kinds ready.kind ready.takes in
+      let (j, f, g) = binary-types (frame_catalog kernels frame) o ready.kinds ready.kind ready.takes in
       let (a', b', i, ka, kb) = two_columns j j ready.kinds ready.columns f ready.typed in
       let both : a ∷ b ∷ [] ≡ a' ∷ b' ∷ [] = sym are ∙ i in
       let sa : a' ≡ a = cc in
@@ -132,63 +127,61 @@ module _ (frame : List Contents) (fits : Fits frame (schema_of frame)) (table : 
       )
 
   pub binary_case :
-      (x : AExpr) (l r : Node) (o : Operator) (a b : TypedRows) → x ≡ ir.BinaryExpr l o r → IsReady frame table x → held table l.0 ≡ Some a → held table r.0 ≡ Some b →
-      Case frame table x (group_rows (group_of o) o a b) ShapeMismatch × TakesTwo o a.kind b.kind
+      (x : AExpr) (l r : Node) (o : Operator) (a b : TypedRows) → x ≡ ir.BinaryExpr l o r → IsReady kernels frame table x → held table l.0 ≡ Some a → held table r.0 ≡ Some b →
+      Case kernels frame table x (group_rows (group_of o) o a b) ShapeMismatch × TakesTwo o a.kind b.kind
   binary_case x l r o a b is ready ha hb =
-      subst (λ (z : AExpr). Case frame table z (group_rows (group_of o) o a b) ShapeMismatch × TakesTwo o a.kind b.kind) (sym is)
-      (binary_at l r o a b (subst (λ (z : AExpr). IsReady frame table z) is ready) ha hb)
+      subst (λ (z : AExpr). Case kernels frame table z (group_rows (group_of o) o a b) ShapeMismatch × TakesTwo o a.kind b.kind) (sym is)
+      (binary_at l r o a b (subst (λ (z : AExpr). IsReady kernels frame table z) is ready) ha hb)
 
   held_within : (t : List (Option TypedRows)) (i : ℕ) (v : TypedRows) → held t i ≡ Some v → i < length t
   held_within [] i v e = cc
   held_within (o ∷ os) zero v e = omega arith
   held_within (o ∷ os) (suc i) v e = let h = held_within os i v e in omega arith
 
-  alias_at : (input : Node) (name : List ℕ) → IsReady frame table (ir.Alias input name) → IsAnswer frame table (ir.Alias input name) (rows.Same input)
+  alias_at :
+      (input : Node) (name : List ℕ) → IsReady kernels frame table (ir.Alias input name) →
+      IsSome (held table input.0) × (node_gives kernels frame table (ir.Alias input name) ≡ held table input.0)
   alias_at input name ready =
-      let f = alias-types (frame_catalog frame) name ready.kinds ready.kind ready.takes in
+      let f = alias-types (frame_catalog kernels frame) name ready.kinds ready.kind ready.takes in
       let (a, i, ka) = one_column ready.kind ready.kinds ready.columns f ready.typed in
       let are = all_of-is (held table input.0 ∷ []) ready.columns ready.all ∙ ap (map Some) i in
       let e : held table input.0 ≡ Some a = cc in
-      record { within = held_within table input.0 a e; rows = a; gives = gives_of (ir.Alias input name) ready ∙ ap (of_one Some) i; answers = e }
+      (ap is_some e, gives_of (ir.Alias input name) ready ∙ (ap (of_one Some) i ∙ sym e))
 
-  pub alias_case : (x : AExpr) (input : Node) (name : List ℕ) → x ≡ ir.Alias input name → IsReady frame table x → IsAnswer frame table x (rows.Same input)
+  -- an alias gives what its input holds
+  pub alias_case :
+      (x : AExpr) (input : Node) (name : List ℕ) → x ≡ ir.Alias input name → IsReady kernels frame table x →
+      IsSome (held table input.0) × (node_gives kernels frame table x ≡ held table input.0)
   alias_case x input name is ready =
-      subst (λ (z : AExpr). IsAnswer frame table z (rows.Same input)) (sym is) (alias_at input name (subst (λ (z : AExpr). IsReady frame table z) is ready))
+      subst (λ (z : AExpr). IsSome (held table input.0) × (node_gives kernels frame table z ≡ held table input.0)) (sym is)
+      (alias_at input name (subst (λ (z : AExpr). IsReady kernels frame table z) is ready))
 
-  pub column_gives : (x : AExpr) (name : List ℕ) → x ≡ ir.Column name → IsReady frame table x → node_gives frame table x ≡ column_at frame name
+  pub column_gives : (x : AExpr) (name : List ℕ) → x ≡ ir.Column name → IsReady kernels frame table x → node_gives kernels frame table x ≡ column_at frame name
   column_gives x name is ready =
-      subst (λ (z : AExpr). node_gives frame table z ≡ column_at frame name) (sym is) (gives_of (ir.Column name) (subst (λ (z : AExpr). IsReady frame table z) is ready))
+      subst (λ (z : AExpr). node_gives kernels frame table z ≡ column_at frame name) (sym is) (gives_of (ir.Column name) (subst (λ (z : AExpr). IsReady kernels frame table z) is ready))
 
-  no_column_fault : (name : List ℕ) (ms : List (Option TypedRows)) (f : PlanError) → OwnFault [] frame (root.Column name) ms f → ⊥
+  no_column_fault : (name : List ℕ) (ms : List (Option TypedRows)) (f : PlanError) → OwnFault kernels frame (root.Column name) ms f → ⊥
   no_column_fault name ms _ (uneven joins h) = cc
 
-  pub column_there : (x : AExpr) (name : List ℕ) → x ≡ ir.Column name → IsReady frame table x → column_named frame name ≡ None → ⊥
+  pub column_there : (x : AExpr) (name : List ℕ) → x ≡ ir.Column name → IsReady kernels frame table x → column_named frame name ≡ None → ⊥
   column_there x name is ready e =
       let nothing = column_gives x name is ready ∙ ap (option_map (λ (c : Contents). c.values)) e in
       let fault = fails x ready nothing in
       no_column_fault name (inputs_held table x) (fault_of (root_of x))
-      (subst (λ (z : AExpr). OwnFault [] frame (root_of z) (inputs_held table x) (fault_of (root_of x))) is fault)
+      (subst (λ (z : AExpr). OwnFault kernels frame (root_of z) (inputs_held table x) (fault_of (root_of x))) is fault)
 
-  pub column_case : (x : AExpr) (name : List ℕ) (r : Rows) (c : Contents) → x ≡ ir.Column name → IsReady frame table x → column_named frame name ≡ Some c → IsOf (length table) r → answer_rows table r ≡ Some c.values → IsAnswer frame table x r
-  column_case x name r c is ready e within answers =
-      record { within = within; rows = c.values; gives = column_gives x name is ready ∙ ap (option_map (λ (d : Contents). d.values)) e; answers = answers }
+  pub column_case : (x : AExpr) (name : List ℕ) (c : Contents) → x ≡ ir.Column name → IsReady kernels frame table x → column_named frame name ≡ Some c → node_gives kernels frame table x ≡ Some c.values
+  column_case x name c is ready e = column_gives x name is ready ∙ ap (option_map (λ (d : Contents). d.values)) e
 
-  literal_at : (v : LiteralValue) → IsReady frame table (ir.Literal v) → (k : ValueType) × (literal_type (literal_rows v) ≡ Some k)
-  literal_at v ready = let (f, g) = literal-types (frame_catalog frame) v ready.kinds ready.kind ready.takes in (ready.kind, g)
+  literal_at : (v : LiteralValue) → IsReady kernels frame table (ir.Literal v) → (k : ValueType) × (literal_type (literal_rows v) ≡ Some k)
+  literal_at v ready = let (f, g) = literal-types (frame_catalog kernels frame) v ready.kinds ready.kind ready.takes in (ready.kind, g)
 
-  pub literal_typed : (x : AExpr) (v : LiteralValue) → x ≡ ir.Literal v → IsReady frame table x → (k : ValueType) × (literal_type (literal_rows v) ≡ Some k)
-  literal_typed x v is ready = literal_at v (subst (λ (z : AExpr). IsReady frame table z) is ready)
+  pub literal_typed : (x : AExpr) (v : LiteralValue) → x ≡ ir.Literal v → IsReady kernels frame table x → (k : ValueType) × (literal_type (literal_rows v) ≡ Some k)
+  literal_typed x v is ready = literal_at v (subst (λ (z : AExpr). IsReady kernels frame table z) is ready)
 
-  has_rows : (o : Option TypedRows) (k : ValueType) → literal_type o ≡ Some k → (w : TypedRows) × (o ≡ Some w)
-  has_rows None k e = cc
-  has_rows (Some w) k e = (w, refl)
-
-  pub literal_case : (x : AExpr) (v : LiteralValue) (r : Rows) → x ≡ ir.Literal v → IsReady frame table x → IsAnyAnswer (literal_rows v) r → IsAnswer frame table x r
-  literal_case x v r is ready any =
-      let (k, t) = literal_typed x v is ready in
-      let (w, e) = has_rows (literal_rows v) k t in
-      let gives = subst (λ (z : AExpr). node_gives frame table z ≡ literal_rows v) (sym is) (gives_of (ir.Literal v) (subst (λ (z : AExpr). IsReady frame table z) is ready)) in
-      record { within = (any table).within; rows = w; gives = gives ∙ e; answers = (any table).answers ∙ e }
+  pub literal_case : (x : AExpr) (v : LiteralValue) → x ≡ ir.Literal v → IsReady kernels frame table x → node_gives kernels frame table x ≡ literal_rows v
+  literal_case x v is ready =
+      subst (λ (z : AExpr). node_gives kernels frame table z ≡ literal_rows v) (sym is) (gives_of (ir.Literal v) (subst (λ (z : AExpr). IsReady kernels frame table z) is ready))
 
   castable_scalar : (k : ValueType) → is_castable k ≡ true → IsScalar k
   castable_scalar kind.Null e = tt
@@ -219,11 +212,11 @@ module _ (frame : List Contents) (fits : Fits frame (schema_of frame)) (table : 
       ]
 
   cast_at :
-      (input : Node) (dtype : DataType) (options : CastOptions) (a : TypedRows) → IsReady frame table (ir.Cast input dtype options) → held table input.0 ≡ Some a →
-      Case frame table (ir.Cast input dtype options) (cast_to options dtype a) InvalidCast × HasCast a.kind (value_type_of dtype)
+      (input : Node) (dtype : DataType) (options : CastOptions) (a : TypedRows) → IsReady kernels frame table (ir.Cast input dtype options) → held table input.0 ≡ Some a →
+      Case kernels frame table (ir.Cast input dtype options) (cast_to options dtype a) InvalidCast × HasCast a.kind (value_type_of dtype)
   cast_at input dtype options a ready ha =
       let are = columns_one (held table input.0) ready.columns a ready.all ha in
-      let (j, f, g) = cast-types (frame_catalog frame) dtype options ready.kinds ready.kind ready.takes in
+      let (j, f, g) = cast-types (frame_catalog kernels frame) dtype options ready.kinds ready.kind ready.takes in
       let (a', i, ka) = one_column j ready.kinds ready.columns f ready.typed in
       let both : a ∷ [] ≡ a' ∷ [] = sym are ∙ i in
       let sa : a' ≡ a = cc in
@@ -233,11 +226,11 @@ module _ (frame : List Contents) (fits : Fits frame (schema_of frame)) (table : 
       )
 
   pub cast_case :
-      (x : AExpr) (input : Node) (dtype : DataType) (options : CastOptions) (a : TypedRows) → x ≡ ir.Cast input dtype options → IsReady frame table x → held table input.0 ≡ Some a →
-      Case frame table x (cast_to options dtype a) InvalidCast × HasCast a.kind (value_type_of dtype)
+      (x : AExpr) (input : Node) (dtype : DataType) (options : CastOptions) (a : TypedRows) → x ≡ ir.Cast input dtype options → IsReady kernels frame table x → held table input.0 ≡ Some a →
+      Case kernels frame table x (cast_to options dtype a) InvalidCast × HasCast a.kind (value_type_of dtype)
   cast_case x input dtype options a is ready ha =
-      subst (λ (z : AExpr). Case frame table z (cast_to options dtype a) InvalidCast × HasCast a.kind (value_type_of dtype)) (sym is)
-      (cast_at input dtype options a (subst (λ (z : AExpr). IsReady frame table z) is ready) ha)
+      subst (λ (z : AExpr). Case kernels frame table z (cast_to options dtype a) InvalidCast × HasCast a.kind (value_type_of dtype)) (sym is)
+      (cast_at input dtype options a (subst (λ (z : AExpr). IsReady kernels frame table z) is ready) ha)
 
   -- a choice takes a mask and two columns of one type
   pub record TakesChoice (m a b : ValueType) : Type 0 where
@@ -245,12 +238,12 @@ module _ (frame : List Contents) (fits : Fits frame (schema_of frame)) (table : 
     pub same : a ≡ b
 
   ternary_at :
-      (p t f : Node) (m a b : TypedRows) → IsReady frame table (ir.Ternary p t f) → held table p.0 ≡ Some m → held table t.0 ≡ Some a → held table f.0 ≡ Some b →
-      Case frame table (ir.Ternary p t f) (choose_rows m a b) ShapeMismatch × TakesChoice m.kind a.kind b.kind
+      (p t f : Node) (m a b : TypedRows) → IsReady kernels frame table (ir.Ternary p t f) → held table p.0 ≡ Some m → held table t.0 ≡ Some a → held table f.0 ≡ Some b →
+      Case kernels frame table (ir.Ternary p t f) (choose_rows m a b) ShapeMismatch × TakesChoice m.kind a.kind b.kind
   ternary_at p t f m a b ready hm ha hb =
       let are = columns_three (held table p.0) (held table t.0) (held table f.0) ready.columns m a b ready.all hm ha hb in
       let k = ready.kind in
-      let (m', a', b', i, km, ka, kb) = three_columns kind.Boolean k k ready.kinds ready.columns (ternary-types (frame_catalog frame) ready.kinds k ready.takes) ready.typed in
+      let (m', a', b', i, km, ka, kb) = three_columns kind.Boolean k k ready.kinds ready.columns (ternary-types (frame_catalog kernels frame) ready.kinds k ready.takes) ready.typed in
       let both : m ∷ a ∷ b ∷ [] ≡ m' ∷ a' ∷ b' ∷ [] = sym are ∙ i in
       let sm : m' ≡ m = cc in
       let sa : a' ≡ a = cc in
@@ -263,13 +256,13 @@ module _ (frame : List Contents) (fits : Fits frame (schema_of frame)) (table : 
       )
 
   pub ternary_case :
-      (x : AExpr) (p t f : Node) (m a b : TypedRows) → x ≡ ir.Ternary p t f → IsReady frame table x → held table p.0 ≡ Some m → held table t.0 ≡ Some a → held table f.0 ≡ Some b →
-      Case frame table x (choose_rows m a b) ShapeMismatch × TakesChoice m.kind a.kind b.kind
+      (x : AExpr) (p t f : Node) (m a b : TypedRows) → x ≡ ir.Ternary p t f → IsReady kernels frame table x → held table p.0 ≡ Some m → held table t.0 ≡ Some a → held table f.0 ≡ Some b →
+      Case kernels frame table x (choose_rows m a b) ShapeMismatch × TakesChoice m.kind a.kind b.kind
   ternary_case x p t f m a b is ready hm ha hb =
-      subst (λ (z : AExpr). Case frame table z (choose_rows m a b) ShapeMismatch × TakesChoice m.kind a.kind b.kind) (sym is)
-      (ternary_at p t f m a b (subst (λ (z : AExpr). IsReady frame table z) is ready) hm ha hb)
+      subst (λ (z : AExpr). Case kernels frame table z (choose_rows m a b) ShapeMismatch × TakesChoice m.kind a.kind b.kind) (sym is)
+      (ternary_at p t f m a b (subst (λ (z : AExpr). IsReady kernels frame table z) is ready) hm ha hb)
 
-  not_core : (x : AExpr) → IsOutside x → IsReady frame table x → ⊥
+  not_core : (x : AExpr) → IsOutside x → IsReady kernels frame table x → ⊥
   unfolding signature
   not_core (ir.Gather a b c) o ready = let e = ready.takes in cc
   not_core (ir.Slice a b c) o ready = let e = ready.takes in cc
@@ -285,22 +278,22 @@ module _ (frame : List Contents) (fits : Fits frame (schema_of frame)) (table : 
   not_core (ir.Ternary a b c) o ready = absurd o
   not_core (ir.Function a b c) o ready = absurd o
 
-  pub outside : (x y : AExpr) → x ≡ y → IsOutside y → IsReady frame table x → ⊥
-  outside x y is o ready = not_core y o (subst (λ (z : AExpr). IsReady frame table z) is ready)
+  pub outside : (x y : AExpr) → x ≡ y → IsOutside y → IsReady kernels frame table x → ⊥
+  outside x y is o ready = not_core y o (subst (λ (z : AExpr). IsReady kernels frame table z) is ready)
 
   single : (ns : List ℕ) (a : TypedRows) → map (held table) ns ≡ Some a ∷ [] → (n : ℕ) × (ns ≡ n ∷ []) × (held table n ≡ Some a)
   single [] a e = cc
   single (n ∷ []) a e = (n, refl, cc)
   single (n ∷ (m ∷ ns)) a e = cc
 
-  one_kinds : (f : FunctionExpr) → IsOfOne f → (ks : List ValueType) (k : ValueType) → Takes (frame_catalog frame) (root.Function f) ks k → (j : ValueType) × (ks ≡ j ∷ [])
-  one_kinds (function.Boolean IsNull) o ks k t = let (j, f, g) = is_null-types (frame_catalog frame) ks k t in (j, f)
-  one_kinds (function.Boolean IsNotNull) o ks k t = let (j, f, g) = is_not_null-types (frame_catalog frame) ks k t in (j, f)
-  one_kinds (function.Boolean Not) o ks k t = let (f, g) = not-types (frame_catalog frame) ks k t in (k, f)
-  one_kinds function.Negate o ks k t = let (f, g) = negate-types (frame_catalog frame) ks k t in (k, f)
+  one_kinds : (f : FunctionExpr) → IsOfOne f → (ks : List ValueType) (k : ValueType) → Takes (frame_catalog kernels frame) (root.Function f) ks k → (j : ValueType) × (ks ≡ j ∷ [])
+  one_kinds (function.Boolean IsNull) o ks k t = let (j, f, g) = is_null-types (frame_catalog kernels frame) ks k t in (j, f)
+  one_kinds (function.Boolean IsNotNull) o ks k t = let (j, f, g) = is_not_null-types (frame_catalog kernels frame) ks k t in (j, f)
+  one_kinds (function.Boolean Not) o ks k t = let (f, g) = not-types (frame_catalog kernels frame) ks k t in (k, f)
+  one_kinds function.Negate o ks k t = let (f, g) = negate-types (frame_catalog kernels frame) ks k t in (k, f)
   one_kinds (function.Fused f) o ks k t = absurd o
 
-  one_takes : (f : FunctionExpr) (ks : List ValueType) (j k : ValueType) → Takes (frame_catalog frame) (root.Function f) ks k → ks ≡ j ∷ [] → TakesOne f j
+  one_takes : (f : FunctionExpr) (ks : List ValueType) (j k : ValueType) → Takes (frame_catalog kernels frame) (root.Function f) ks k → ks ≡ j ∷ [] → TakesOne f j
   unfolding signature
   one_takes f ks j k t e =
       let s : Signature = record { inputs = ks; result = k } in
@@ -313,9 +306,9 @@ module _ (frame : List Contents) (fits : Fits frame (schema_of frame)) (table : 
     pub are : inputs_of x ≡ place ∷ []
     pub holds : held table place ≡ Some rows
     pub takes : TakesOne f rows.kind
-    pub case : Case frame table x (function_rows f (rows ∷ [])) ShapeMismatch
+    pub case : Case kernels frame table x (function_rows f (rows ∷ [])) ShapeMismatch
 
-  one_at : (input : Entries ExprIR) (f : FunctionExpr) (own : FunctionOptions) → IsOfOne f → IsReady frame table (ir.Function input f own) → OneInput (ir.Function input f own) f
+  one_at : (input : Entries ExprIR) (f : FunctionExpr) (own : FunctionOptions) → IsOfOne f → IsReady kernels frame table (ir.Function input f own) → OneInput (ir.Function input f own) f
   one_at input f own one ready =
       let (j, e) = one_kinds f one ready.kinds ready.kind ready.takes in
       let (a, i, ka) = one_column j ready.kinds ready.columns e ready.typed in
@@ -330,9 +323,9 @@ module _ (frame : List Contents) (fits : Fits frame (schema_of frame)) (table : 
         case = record { gives = gives_of (ir.Function input f own) ready ∙ ap (function_rows f) i; fault = refl };
       }
 
-  pub one_input : (x : AExpr) (f : FunctionExpr) → IsFunction x f → IsOfOne f → IsReady frame table x → OneInput x f
+  pub one_input : (x : AExpr) (f : FunctionExpr) → IsFunction x f → IsOfOne f → IsReady kernels frame table x → OneInput x f
   one_input x f fn one ready =
-      subst (λ (z : AExpr). OneInput z f) (sym fn.is) (one_at fn.input f fn.own one (subst (λ (z : AExpr). IsReady frame table z) fn.is ready))
+      subst (λ (z : AExpr). OneInput z f) (sym fn.is) (one_at fn.input f fn.own one (subst (λ (z : AExpr). IsReady kernels frame table z) fn.is ready))
 
   -- what was read of that input
   pub one_read : (x : AExpr) (f : FunctionExpr) (m : ℕ) (v : TypedRows) (o : OneInput x f) → slice_get (inputs_of x) 0 ≡ Some m → held table m ≡ Some v → v ≡ o.rows
@@ -371,7 +364,7 @@ module _ (frame : List Contents) (fits : Fits frame (schema_of frame)) (table : 
     pub integer : IsInteger a.kind
     pub same : a.kind ≡ b.kind
     pub also : b.kind ≡ d.kind
-    pub case : Case frame table x (fused_rows o a b d) ShapeMismatch
+    pub case : Case kernels frame table x (fused_rows o a b d) ShapeMismatch
 
   integer_of : (k : ValueType) → is_integer_value k ≡ true → IsInteger k
   integer_of kind.Null e = cc
@@ -386,10 +379,10 @@ module _ (frame : List Contents) (fits : Fits frame (schema_of frame)) (table : 
   integer_of kind.UInt32 e = tt
   integer_of kind.UInt64 e = tt
 
-  three_at : (input : Entries ExprIR) (o : FusedOperator) (own : FunctionOptions) → IsReady frame table (ir.Function input (function.Fused o) own) → ThreeInputs (ir.Function input (function.Fused o) own) o
+  three_at : (input : Entries ExprIR) (o : FusedOperator) (own : FunctionOptions) → IsReady kernels frame table (ir.Function input (function.Fused o) own) → ThreeInputs (ir.Function input (function.Fused o) own) o
   three_at input o own ready =
       let k = ready.kind in
-      let (e, int) = fused-types (frame_catalog frame) o ready.kinds k ready.takes in
+      let (e, int) = fused-types (frame_catalog kernels frame) o ready.kinds k ready.takes in
       let (a, b, d, i, ka, kb, kd) = three_columns k k k ready.kinds ready.columns e ready.typed in
       let maps = all_of-is (map (held table) (expr_places input.entries)) ready.columns ready.all ∙ ap (map Some) i in
       let (p, q, r, are, ha, hb, hd) = triple (expr_places input.entries) a b d maps in
@@ -410,9 +403,9 @@ module _ (frame : List Contents) (fits : Fits frame (schema_of frame)) (table : 
         case = record { gives = gives_of (ir.Function input (function.Fused o) own) ready ∙ ap (function_rows (function.Fused o)) i; fault = refl };
       }
 
-  pub three_inputs : (x : AExpr) (o : FusedOperator) → IsFunction x (function.Fused o) → IsReady frame table x → ThreeInputs x o
+  pub three_inputs : (x : AExpr) (o : FusedOperator) → IsFunction x (function.Fused o) → IsReady kernels frame table x → ThreeInputs x o
   three_inputs x o fn ready =
-      subst (λ (z : AExpr). ThreeInputs z o) (sym fn.is) (three_at fn.input o fn.own (subst (λ (z : AExpr). IsReady frame table z) fn.is ready))
+      subst (λ (z : AExpr). ThreeInputs z o) (sym fn.is) (three_at fn.input o fn.own (subst (λ (z : AExpr). IsReady kernels frame table z) fn.is ready))
 
   -- the place at an index of a list of three
   pub place_is : (ns ms : List ℕ) (i m n : ℕ) → ns ≡ ms → slice_get ns i ≡ Some m → slice_get ms i ≡ Some n → n ≡ m
@@ -423,6 +416,11 @@ module _ (frame : List Contents) (fits : Fits frame (schema_of frame)) (table : 
 
   pub read_at : (m n : ℕ) (a v : TypedRows) → n ≡ m → held table n ≡ Some a → held table m ≡ Some v → a ≡ v
   read_at m n a v e h g = let s : Some a ≡ Some v = sym h ∙ (ap (held table) e ∙ g) in cc
+
+-- what was shared is what the place holds
+pub shared_ok : (w o : Option TypedRows) (r : Result Rows PlanError) → w ≡ o → IfOk r (λ a. o ≡ Some (values_of a)) → IfOk r (λ a. w ≡ Some (values_of a))
+shared_ok w o (Ok r) same h = same ∙ h
+shared_ok w o (Err e) same h = tt
 
 boolean_only : (k j : ValueType) → boolean_type k ≡ Some j → k ≡ kind.Boolean
 boolean_only kind.Boolean j e = refl

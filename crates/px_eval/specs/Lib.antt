@@ -1,3 +1,6 @@
 pub mod Table
 pub mod Own
 pub mod Fills
+pub mod Answers
+pub mod Evaluated
+pub mod Selected

@@ -1,6 +1,8 @@
 //! What the trees of an arena mean on a frame.
 #![tactic(auto)]
 
+mod answers;
+mod evaluation;
 mod filling;
 mod functions;
 mod operators;
@@ -8,5 +10,4 @@ mod own;
 mod scalars;
 mod table;
 
-pub use filling::evaluate_rows;
-pub use table::{Rows, Table};
+pub use evaluation::evaluate;

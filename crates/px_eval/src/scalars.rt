@@ -6,7 +6,7 @@ ghost use Rattle.px_types.specs.declared.value_type.ValueType.{ValueType};
 ghost use Rattle.px_column.specs.ColumnOf.{kind_of, rows_of};
 ghost use Rattle.px_meaning.specs.Literals.{literal_rows};
 ghost use Rattle.px_meaning.specs.Signatures.{literal_type};
-ghost use Rattle.px_eval.specs.Own.{IsAnyAnswer};
+ghost use Rattle.px_eval.specs.Table.{values_of, GivesValues};
 
 use crate::table::Rows;
 use px_column::{Buffer, Column};
@@ -27,17 +27,16 @@ fn one_number<T: Number>(alloc: Global, x: T) -> Result<Numbers<T>, PlanError>
 
 /// The rows of the buffer as an answer.
 fn owned<'f>(alloc: Global, buffer: Buffer) -> Result<Rows<'f>, PlanError>
-    ensures ok { IfOk result (λ r. IsAnyAnswer (Some (record { kind = kind_of buffer; rows = rows_of buffer })) r) }
-    ensures err { IfErr result (λ e. e ≡ PlanError.OutOfMemory) }
+    ensures { GivesValues result (record { kind = kind_of buffer; rows = rows_of buffer }) }
 {
     let name = SmallStr::new(alloc, "")?;
-    Ok(Rows::Owned(Column::new(name, buffer)))
+    Rows::new(alloc, Column::new(name, buffer))
 }
 
 /// The rows of a literal that is a column: a series as it is, else one row.
 pub fn literal<'f>(alloc: Global, value: &'f LiteralValue) -> Result<Rows<'f>, PlanError>
     requires { (k : ValueType) × (literal_type (literal_rows value.now) ≡ Some k) }
-    ensures ok { IfOk result (λ r. IsAnyAnswer (literal_rows value.now) r) }
+    ensures ok { IfOk result (λ r. literal_rows value.now ≡ Some (values_of r)) }
     ensures err { IfErr result (λ e. e ≡ PlanError.OutOfMemory) }
 {
     match value {

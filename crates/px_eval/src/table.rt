@@ -1,46 +1,82 @@
 //! The rows that places of an arena mean, each held once.
-ghost use Rattle.std.specs.Prelude.{◌≡◌, ◌<◌, length, slice_set, replicate, get_or, Some, None, Err, option_map, IfOk, IfErr, OnOk, OnErr, IsSome};
-ghost use Rattle.px_eval.specs.Table.{answer_rows, held, IsOf};
+ghost use Rattle.std.specs.Prelude.{◌≡◌, ◌<◌, length, slice_set, replicate, Some, None, IfOk, IfErr, IsSome, is_some};
+ghost use Rattle.px_base.specs.Answer.{GivesOrMemory};
+ghost use Rattle.px_eval.specs.Table.{values_of, held, GivesValues};
 
 use px_arena::Node;
 use px_column::Column;
-use px_types::PlanError;
+use px_types::{PlanError, SmallStr};
 use std::alloc::Global;
 use std::marker::Model;
+use std::rc::Rc;
 
-/// The rows of a node: a column that the frame or a literal has, a new one, or those of an input.
+/// The rows of a place: those of a column that the frame or a literal has, or of a new one, which
+/// places may share.
 #[derive(Drop)]
 pub enum Rows<'f> {
     Borrowed(&'f Column),
-    Owned(Column),
-    Same(Node),
+    Shared(Rc<Column>),
 }
 
-/// Where the rows of a place are held.
-#[derive(Clone, Copy)]
-pub enum Entry<'f> {
-    Borrowed(&'f Column),
-    Owned(usize),
+impl<'f> Rows<'f> {
+    /// The rows of a new column.
+    pub fn new(alloc: Global, column: Column) -> Result<Rows<'f>, PlanError>
+        ensures { GivesValues result column.values }
+    {
+        match Rc::new(alloc, column) {
+            Ok(column) => Ok(Rows::Shared(column)),
+            Err(_) => Err(PlanError::OutOfMemory),
+        }
+    }
+
+    /// The column that has them.
+    pub fn column(&self) -> &Column
+        ensures { result.now.values ≡ values_of self.now }
+    {
+        match self {
+            Rows::Borrowed(column) => *column,
+            Rows::Shared(column) => column.as_ref(),
+        }
+    }
+
+    /// The same rows, not copied.
+    pub fn share(&self) -> Result<Rows<'f>, PlanError>
+        ensures { GivesValues result (values_of self.now) }
+    {
+        match self {
+            Rows::Borrowed(column) => Ok(Rows::Borrowed(*column)),
+            Rows::Shared(column) => Ok(Rows::Shared(column.clone()?)),
+        }
+    }
+
+    /// A column of them under the name: a copy where another has them too.
+    pub fn into_column(self, alloc: Global, name: SmallStr) -> Result<Column, PlanError>
+        ensures { GivesOrMemory result (record { name = name; values = values_of self.entry }) }
+    {
+        match self {
+            Rows::Borrowed(column) => Ok(Column::new(name, column.buffer().try_clone(alloc)?)),
+            Rows::Shared(column) => match Rc::try_unwrap(column) {
+                Ok(column) => Ok(column.rename(name)),
+                Err(column) => Ok(Column::new(name, column.buffer().try_clone(alloc)?)),
+            },
+        }
+    }
 }
 
 /// The rows of places. Contracts see what each place holds.
 #[derive(Drop)]
 pub struct Table<'f> {
-    places: Vec<Option<Entry<'f>>>,
-    owned: Vec<Column>,
+    places: Vec<Option<Rows<'f>>>,
 }
 
 impl<'f> Model for Table<'f> {
-    ghost use Rattle.std.specs.Prelude.{List, Option, length, map};
-    ghost use Rattle.std.specs.List.{All};
+    ghost use Rattle.std.specs.Prelude.{List, Option, map, option_map};
     ghost use Rattle.px_types.specs.Rows.{TypedRows};
-    ghost use Rattle.px_eval.specs.Table.{place_rows, IsWithin};
+    ghost use Rattle.px_eval.specs.Table.{values_of};
 
     ghost Value = { List (Option TypedRows) };
 
-    ghost view = { λ t. map (place_rows t.owned.items) t.places.items };
-
-    ghost invariant = { λ t. All (IsWithin (length t.owned.items)) t.places.items };
+    ghost view = { λ t. map (option_map values_of) t.places.items };
 }
 
 impl<'f> Table<'f> {
@@ -49,62 +85,55 @@ impl<'f> Table<'f> {
         ensures ok { IfOk result (λ t. t ≡ replicate len None) }
         ensures err { IfErr result (λ e. e ≡ PlanError.OutOfMemory) }
     {
-        let mut places: Vec<Option<Entry<'f>>> = Vec::new(alloc);
+        let mut places: Vec<Option<Rows<'f>>> = Vec::new(alloc);
         for _i in 0..len {
             places.push(None)?;
         }
-        Ok(Table {
-            places,
-            owned: Vec::new(alloc),
-        })
+        Ok(Table { places })
     }
 
-    /// The rows that a place holds.
-    pub fn get(&self, node: Node) -> Option<&Column>
+    /// Whether a place holds rows.
+    pub fn is_filled(&self, node: Node) -> bool
         requires { node.0 < length self.now }
-        ensures { option_map (λ c. c.now.values) result ≡ held self.now node.0 }
+        ensures { result ≡ is_some (held self.now node.0) }
     {
-        match &self.places[node.0] {
-            None => None,
-            Some(Entry::Borrowed(column)) => Some(*column),
-            Some(Entry::Owned(k)) => Some(&self.owned[*k]),
-        }
+        self.places[node.0].is_some()
     }
 
     /// The rows of a place that holds some.
-    pub fn at(&self, node: Node) -> &Column
+    fn rows(&self, node: Node) -> &Rows<'f>
         requires { IsSome (held self.now node.0) }
-        ensures { held self.now node.0 ≡ Some result.now.values }
+        ensures { held self.now node.0 ≡ Some (values_of result.now) }
     {
         prove!(node.0 < self.places.len());
-        match self.get(node) {
-            Some(column) => column,
+        match &self.places[node.0] {
+            Some(rows) => rows,
             None => unreachable!(),
         }
     }
 
-    /// The place holds the rows from now on. On a refusal the table stays.
-    pub fn put(&mut self, node: Node, rows: Rows<'f>) -> Result<(), PlanError>
-        requires within { node.0 < length self.old }
-        requires input { IsOf (length self.old) rows }
-        ensures ok { OnOk result (self.new ≡ slice_set self.old node.0 (answer_rows self.old rows.entry)) }
-        ensures err { OnErr result ((self.new ≡ self.old) × (result ≡ Err PlanError.OutOfMemory)) }
+    /// A column of the rows of a place that holds some.
+    pub fn at(&self, node: Node) -> &Column
+        requires { IsSome (held self.now node.0) }
+        ensures { held self.now node.0 ≡ Some result.now.values }
     {
-        match rows {
-            Rows::Borrowed(column) => {
-                self.places[node.0] = Some(Entry::Borrowed(column));
-                Ok(())
-            }
-            Rows::Owned(column) => {
-                let k = self.owned.len();
-                self.owned.push(column)?;
-                self.places[node.0] = Some(Entry::Owned(k));
-                Ok(())
-            }
-            Rows::Same(other) => {
-                self.places[node.0] = self.places[other.0];
-                Ok(())
-            }
-        }
+        self.rows(node).column()
+    }
+
+    /// The rows of a place that holds some, not copied.
+    pub fn share(&self, node: Node) -> Result<Rows<'f>, PlanError>
+        requires { IsSome (held self.now node.0) }
+        ensures ok { IfOk result (λ r. held self.now node.0 ≡ Some (values_of r)) }
+        ensures err { IfErr result (λ e. e ≡ PlanError.OutOfMemory) }
+    {
+        self.rows(node).share()
+    }
+
+    /// The place holds the rows from now on.
+    pub fn put(&mut self, node: Node, rows: Rows<'f>)
+        requires { node.0 < length self.old }
+        ensures { self.new ≡ slice_set self.old node.0 (Some (values_of rows.entry)) }
+    {
+        self.places[node.0] = Some(rows);
     }
 }

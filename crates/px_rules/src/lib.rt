@@ -14,6 +14,7 @@ mod views;
 
 pub use driver::optimize_loop;
 pub use fused::FusedArithmetic;
+pub use output_name::name_at;
 pub use px_expr::{Context, KernelList, PlanContext};
 pub use rule::OptimizationRule;
 pub use rules::AllRules;

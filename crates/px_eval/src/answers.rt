@@ -1,0 +1,133 @@
+//! Rows under names, as columns of one length.
+ghost use Rattle.std.specs.Prelude.{◌≡◌, ◌⊎◌, ℕ, List, map, Some, None, IfOk, IfErr, IsSome};
+ghost use Rattle.px_base.specs.Answer.{GivesOrMemory};
+ghost use Rattle.px_types.specs.Frames.{heights};
+ghost use Rattle.px_expr.specs.declared.context.Context.TheVariants.{Select};
+ghost use Rattle.px_expr.specs.Tree.{Tree};
+ghost use Rattle.px_meaning.specs.Mean.{joined_all, shown, shown_name, lined_up};
+ghost use Rattle.px_meaning.specs.Names.{name};
+ghost use Rattle.px_arena.specs.Denotes.{Denotes, IsIn};
+ghost use Rattle.px_rules.specs.Plan.{places};
+ghost use Rattle.px_eval.specs.Table.{values_of, held};
+ghost use Rattle.px_eval.specs.Answers.{column_of, FitsLength};
+ghost use Rattle.px_eval.specs.Evaluated.{DenoteTrees};
+
+use crate::table::{Rows, Table};
+use px_arena::{Arena, Node};
+use px_column::{Column, ColumnList, join_lengths};
+use px_expr::Context;
+use px_rules::name_at;
+use px_types::{PlanError, SmallStr};
+use std::alloc::Global;
+
+/// The rows of a root under a name.
+#[derive(Drop)]
+pub struct Answer<'f> {
+    name: SmallStr,
+    rows: Rows<'f>,
+}
+
+/// The name of what the root denotes, as the context shows it.
+fn shown_name_at(
+    alloc: Global,
+    arena: &Arena,
+    root: Node,
+    context: Context,
+) -> Result<SmallStr, PlanError>
+    requires { (t : Tree) × Denotes arena.now root.0 t }
+    ensures { (t : Tree) → Denotes arena.now root.0 t → GivesOrMemory result (shown_name context (name t)) }
+{
+    match context {
+        Context::Select => name_at(alloc, arena, root),
+        Context::Filter => SmallStr::new(alloc, ""),
+    }
+}
+
+fn answer_at<'f>(
+    alloc: Global,
+    arena: &Arena,
+    root: Node,
+    context: Context,
+    table: &Table<'f>,
+) -> Result<Answer<'f>, PlanError>
+    requires denotes { (t : Tree) × Denotes arena.now root.0 t }
+    requires filled { IsSome (held table.now root.0) }
+    ensures rows { IfOk result (λ a. Some (values_of a.rows) ≡ held table.now root.0) }
+    ensures name { IfOk result (λ a. (t : Tree) → Denotes arena.now root.0 t → a.name ≡ shown_name context (name t)) }
+    ensures err { IfErr result (λ e. e ≡ PlanError.OutOfMemory) }
+{
+    let rows = table.share(root)?;
+    let name = shown_name_at(alloc, arena, root, context)?;
+    Ok(Answer { name, rows })
+}
+
+/// The rows of each root under the name that the context shows.
+pub fn answers_of<'f>(
+    alloc: Global,
+    arena: &Arena,
+    roots: &[Node],
+    context: Context,
+    table: &Table<'f>,
+) -> Result<Vec<Answer<'f>>, PlanError>
+    requires denote { (ts : List Tree) × DenoteTrees arena.now roots.now ts }
+    requires filled { (n : ℕ) → IsIn n (places roots.now) → IsSome (held table.now n) }
+    ensures rows { IfOk result (λ all. map (λ a. Some (values_of a.rows)) all.items ≡ map (held table.now) (places roots.now)) }
+    ensures names { IfOk result (λ all. (ts : List Tree) → DenoteTrees arena.now roots.now ts → map (λ a. a.name) all.items ≡ map (λ t. shown_name context (name t)) ts) }
+    ensures err { IfErr result (λ e. e ≡ PlanError.OutOfMemory) }
+{
+    let mut answers = Vec::new(alloc);
+    for i in 0..roots.len() {
+        match answer_at(alloc, arena, roots[i], context, table) {
+            Ok(answer) => answers.push(answer)?,
+            Err(e) => return Err(e),
+        }
+    }
+    Ok(answers)
+}
+
+/// The length to which the lengths join.
+fn joined_length(answers: &[Answer<'_>]) -> Option<u32>
+    ensures { result ≡ joined_all (heights (map column_of answers.now)) }
+{
+    let mut joined = 1;
+    for answer in answers {
+        joined = join_lengths(joined, answer.rows.column().len())?;
+    }
+    Some(joined)
+}
+
+/// The column with its one row so often, where it has another length.
+fn stretched(alloc: Global, answer: Answer<'_>, len: u32) -> Result<Column, PlanError>
+    requires { FitsLength len (column_of answer) }
+    ensures { GivesOrMemory result (shown Select len (column_of answer.entry)) }
+{
+    let column = answer.rows.column();
+    if column.len() == len {
+        return answer.rows.into_column(alloc, answer.name);
+    }
+    let buffer = column.buffer().repeated(alloc, len)?;
+    Ok(Column::new(answer.name, buffer))
+}
+
+fn stretch_all(alloc: Global, answers: Vec<Answer<'_>>, len: u32) -> Result<ColumnList, PlanError>
+    requires { joined_all (heights (map column_of answers.items)) ≡ Some len }
+    ensures ok { IfOk result (λ l. l.entries ≡ map (shown Select len) (map column_of answers.entry.items)) }
+    ensures err { IfErr result (λ e. e ≡ PlanError.OutOfMemory) }
+{
+    let mut columns = ColumnList::new(alloc);
+    for answer in answers {
+        columns.try_push(stretched(alloc, answer, len)?)?;
+    }
+    Ok(columns)
+}
+
+/// The columns, each of the length to which all join. `ShapeMismatch` where they do not join.
+pub fn line_up(alloc: Global, answers: Vec<Answer<'_>>) -> Result<ColumnList, PlanError>
+    ensures ok { IfOk result (λ l. lined_up Select (map column_of answers.entry.items) ≡ Some l.entries) }
+    ensures err { IfErr result (λ e. (e ≡ PlanError.OutOfMemory) ⊎ ((e ≡ PlanError.ShapeMismatch) × (lined_up Select (map column_of answers.entry.items) ≡ None))) }
+{
+    match joined_length(answers.as_slice()) {
+        None => Err(PlanError::ShapeMismatch),
+        Some(len) => stretch_all(alloc, answers, len),
+    }
+}
