@@ -2,3 +2,4 @@ pub mod Fills
 pub mod Single
 pub mod Roots
 pub mod Columns
+pub mod Selects

@@ -8,6 +8,8 @@ mod functions;
 mod operators;
 mod own;
 mod scalars;
+mod selection;
 mod table;
 
 pub use evaluation::evaluate;
+pub use selection::{Collected, run_select};
