@@ -9,6 +9,8 @@ mod kinds;
 mod literals;
 mod name;
 mod rules;
+#[cfg(test)]
+mod tests;
 mod unite;
 
 pub use check::{check_expr, check_list};

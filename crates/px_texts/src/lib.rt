@@ -1,0 +1,9 @@
+//! Expressions as short texts, for tests: each input before its node, words with a space between.
+#![tactic(auto)]
+
+mod read;
+mod words;
+mod write;
+
+pub use read::{read_expr, read_text};
+pub use write::{function_name, write_cast, write_literal, write_operator, write_text, write_word};
