@@ -1,1 +1,2 @@
 pub mod Optimizes
+pub mod Shared

@@ -3,6 +3,8 @@
 
 mod lowering;
 mod optimizing;
+#[cfg(test)]
+mod tests;
 
 pub use lowering::lower;
 pub use optimizing::{Optimized, optimize};
