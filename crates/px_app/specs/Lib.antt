@@ -1,4 +1,4 @@
 pub mod Words
-pub mod Small
-pub mod Selected
-pub mod Writable
+pub mod Answers
+pub mod Statuses
+pub mod Written

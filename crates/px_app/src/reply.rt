@@ -1,135 +1,115 @@
-//! What is due to a document.
-ghost use Rattle.std.specs.Prelude.{◌≡◌, [], ◌∷◌, map, option_map, true, Some, None, IfOk, IfErr, IfSome, IfNone};
-ghost use Rattle.px_small_expr.specs.Tree.{tree_of};
-ghost use Rattle.px_small_meaning.specs.Schema.{schema_of};
-ghost use Rattle.px_small_meaning.specs.Check.{IsChecked};
-ghost use Rattle.std.specs.List.{list_all};
-ghost use Rattle.px_document.specs.Written.{has_form};
-ghost use Rattle.px_document.specs.Report.{report, line, error_data, is_written};
-ghost use Rattle.px_app.specs.Small.{Small, small_document, only_expression, checked};
-ghost use Rattle.px_app.specs.Selected.{IsReply, IsReplyOf, IsReportOf};
-ghost use Rattle.px_app.specs.Writable.{are_written, IsWritable};
+//! What is expected for a document.
+ghost use Rattle.std.specs.Prelude.{◌≡◌, ◌≢◌, Some, None, IfOk, IfErr, IfSome, IfNone, IsSome};
+ghost use Rattle.px_forms.specs.Written.{all_data};
+ghost use Rattle.px_document.specs.Document as spec;
+ghost use Rattle.px_document.specs.Report.{line, error_data};
+ghost use Rattle.px_eval.specs.Selected.{answered};
+ghost use Rattle.px_app.specs.Answers.{IsAnswered, IsFault, IsReportText};
+ghost use Rattle.px_app.specs.Statuses.{status_of_document};
+ghost use Rattle.px_app.specs.Written.{IsReply, IsReplyTo};
 
-use px_column::{Column, Frame};
-use px_document::{Document, document_of_bytes, error_value, line, report_value};
-use px_simplify::{evaluate, kind_of, simplify};
-use px_small_expr::Expr;
+use crate::report::report_value;
+use crate::status::{ANSWERED, REFUSED};
+use px_document::{Document, document_of_bytes, error_value, line};
+use px_eval::{Collected, run_select};
+use px_expr::{Context, KernelList};
 use px_types::{PlanError, Steps};
 use std::alloc::Global;
 use std::sync::ledger::Ledger;
 
-/// A status, and the text that is due.
+/// A status, and the text that is expected.
 #[derive(Drop)]
 pub(crate) struct Reply {
     pub(crate) status: u8,
     pub(crate) text: Vec<u8>,
 }
 
-/// What is due to the bytes, or None where they are no document of one expression. The bytes are let
-/// go before the expression is looked at.
+/// What is expected for the bytes, or None where they are no document. They are dropped before the
+/// expressions are looked at.
 pub(crate) fn reply_to<L: Ledger>(
     alloc: Global,
     bytes: Vec<u8>,
+    context: Context,
     steps: &mut Steps<L>,
 ) -> Result<Option<Reply>, PlanError>
-    ensures reply { IfOk result (λ o. IfSome o (λ reply. IsReply bytes.items reply.status reply.text.items)) }
-    ensures none { IfOk result (λ o. IfNone o (small_document bytes.items ≡ None)) }
+    ensures reply { IfOk result (λ o. IfSome o (λ reply. IsReply context bytes.items reply.status reply.text.items)) }
+    ensures status { IfOk result (λ o. IfSome o (λ reply. reply.status
+        ≡ status_of_document context (spec.document_of_bytes bytes.items))) }
+    ensures none { IfOk result (λ o. IfNone o (spec.document_of_bytes bytes.items ≡ None)) }
     ensures err { IfErr result (λ e. e ≡ PlanError.OutOfMemory) }
 {
-    let Some((frame, expr)) = small_document(alloc, bytes.as_slice())? else {
+    let Some(document) = document_of_bytes(alloc, bytes.as_slice())? else {
         return Ok(None);
     };
     drop(bytes);
-    Ok(Some(reply_to_small(alloc, frame, expr, steps)?))
+    Ok(Some(reply_to_document(alloc, document, context, steps)?))
 }
 
-/// The frame and the only expression of the document that the bytes are.
-fn small_document(alloc: Global, bytes: &[u8]) -> Result<Option<(Frame, Expr)>, PlanError>
-    ensures ok { IfOk result (λ o. option_map (λ p. record { frame = p.0; expr = tree_of p.1 }) o ≡ small_document bytes.now) }
-    ensures writable { IfOk result (λ o. IfSome o (λ p. IsWritable p.0 (tree_of p.1))) }
-    ensures err { IfErr result (λ e. e ≡ PlanError.OutOfMemory) }
-{
-    let Some(document) = document_of_bytes(alloc, bytes)? else {
-        return Ok(None);
-    };
-    Ok(only_expression(document))
-}
-
-fn only_expression(document: Document) -> Option<(Frame, Expr)>
-    requires written { are_written document.frame ≡ true }
-    requires forms { list_all has_form (map tree_of document.exprs.entries) ≡ true }
-    ensures only { option_map (λ p. record { frame = p.0; expr = tree_of p.1 }) result ≡ only_expression document.frame (map tree_of document.exprs.entries) }
-    ensures writable { IfSome result (λ p. IsWritable p.0 (tree_of p.1)) }
-{
-    let Document { frame, mut exprs } = document;
-    if exprs.len() != 1 {
-        return None;
-    }
-    let expr = exprs.entries.pop()?;
-    Some((frame, expr))
-}
-
-/// The report, or the line of the first fault.
-fn reply_to_small<L: Ledger>(
+/// The report, or the line of a fault.
+fn reply_to_document<L: Ledger>(
     alloc: Global,
-    frame: Frame,
-    expr: Expr,
+    document: Document,
+    context: Context,
     steps: &mut Steps<L>,
 ) -> Result<Reply, PlanError>
-    requires { IsWritable frame (tree_of expr) }
-    ensures reply { IfOk result (λ reply. IsReplyOf (record { frame = frame; expr = tree_of expr }) reply.status reply.text.items) }
+    ensures reply { IfOk result (λ reply. IsReplyTo context document reply.status reply.text.items) }
+    ensures status { IfOk result (λ reply. reply.status ≡ status_of_document context (Some document)) }
     ensures err { IfErr result (λ e. e ≡ PlanError.OutOfMemory) }
 {
-    match kind_of(alloc, frame.schema(), &expr) {
-        Ok(_) => Ok(Reply {
-            status: 0,
-            text: selected(alloc, frame, expr, steps)?,
+    match selected(alloc, document, context, steps) {
+        Ok(collected) => Ok(Reply {
+            status: ANSWERED,
+            text: report_line(alloc, collected)?,
         }),
-        Err(PlanError::OutOfMemory) => Err(PlanError::OutOfMemory),
-        Err(fault) => Ok(Reply {
-            status: 1,
+        Err(fault) => refusal(alloc, fault),
+    }
+}
+
+/// The line of a fault. Out of memory is none.
+fn refusal(alloc: Global, fault: PlanError) -> Result<Reply, PlanError>
+    ensures fault { IfOk result (λ _. fault ≢ PlanError.OutOfMemory) }
+    ensures status { IfOk result (λ reply. reply.status ≡ REFUSED) }
+    ensures line { IfOk result (λ reply. reply.text.items ≡ line (error_data fault)) }
+    ensures err { IfErr result (λ e. e ≡ PlanError.OutOfMemory) }
+{
+    match fault {
+        PlanError::OutOfMemory => Err(PlanError::OutOfMemory),
+        fault => Ok(Reply {
+            status: REFUSED,
             text: error_line(alloc, &fault)?,
         }),
     }
 }
 
-/// The report of a checked expression.
+/// What the document's expressions give, without kernels. The document is dropped before this
+/// returns.
 fn selected<L: Ledger>(
     alloc: Global,
-    frame: Frame,
-    expr: Expr,
+    document: Document,
+    context: Context,
     steps: &mut Steps<L>,
-) -> Result<Vec<u8>, PlanError>
-    requires checked { IsChecked (schema_of frame) (tree_of expr) }
-    requires writable { IsWritable frame (tree_of expr) }
-    ensures report { IfOk result (λ text. IsReportOf (record { frame = frame; expr = tree_of expr }) text.items) }
-    ensures err { IfErr result (λ e. e ≡ PlanError.OutOfMemory) }
+) -> Result<Collected, PlanError>
+    ensures answer { IfOk result (λ s. IsAnswered context document s.columns (answered s) s.rewrites) }
+    ensures forms { IfOk result (λ s. IsSome (all_data (answered s))) }
+    ensures status { IfOk result (λ _. status_of_document context (Some document) ≡ ANSWERED) }
+    ensures fault { IfErr result (λ e. e ≢ PlanError.OutOfMemory → IsFault context document e) }
+    ensures refused { IfErr result (λ e. e ≢ PlanError.OutOfMemory
+        → status_of_document context (Some document) ≡ REFUSED) }
 {
-    let (tree, rewrites) = simplify(alloc, expr, steps)?;
-    let column = evaluate(alloc, &frame, &tree)?;
-    drop(frame);
-    report_text(alloc, column, tree, rewrites)
+    let kernels = KernelList::new(alloc);
+    let exprs = document.exprs.as_slice();
+    run_select(alloc, &document.frame, exprs, context, &kernels, steps)
 }
 
-/// The report's text.
-fn report_text(
-    alloc: Global,
-    column: Column,
-    simplified: Expr,
-    rewrites: u64,
-) -> Result<Vec<u8>, PlanError>
-    requires column { is_written column.values.kind ≡ true }
-    requires tree { has_form (tree_of simplified) ≡ true }
-    ensures text { IfOk result (λ text. option_map line (report (column ∷ []) (tree_of simplified ∷ []) rewrites) ≡ Some text.items) }
+/// The text of a report.
+fn report_line(alloc: Global, collected: Collected) -> Result<Vec<u8>, PlanError>
+    requires { IsSome (all_data (answered collected)) }
+    ensures text { IfOk result (λ text. IsReportText collected.columns
+        (answered collected) collected.rewrites text.items) }
     ensures err { IfErr result (λ e. e ≡ PlanError.OutOfMemory) }
 {
-    let columns = [column];
-    let trees = [simplified];
-    let Some(value) = report_value(alloc, &columns, &trees, rewrites)? else {
-        unreachable!()
-    };
-    drop(columns);
-    drop(trees);
+    let value = report_value(alloc, &collected)?;
+    drop(collected);
     line(alloc, &value)
 }
 

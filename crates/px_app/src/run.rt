@@ -1,29 +1,35 @@
 //! The top call.
-ghost use Rattle.std.specs.Prelude.{◌≡◌, ◌≢◌, ◌⊎◌, ◌↔◌, ◌≤◌, ◌<◌, ℕ, List, true, false, length, take, IfSome};
-ghost use Rattle.std.specs.Io.KnownBytes.{Appends, IsAtEnd};
+ghost use Rattle.std.specs.Prelude.{◌≡◌, ◌≢◌, ◌⊎◌, ◌↔◌, ◌≤◌, ◌<◌, ℕ, List, None};
+ghost use Rattle.std.specs.Io.KnownBytes.{IsAtEnd};
 ghost use Rattle.px_streams.specs.Causes.{Rose};
 ghost use Rattle.px_streams.specs.Reading.{TookMore, TookAtMost};
-ghost use Rattle.px_app.specs.Words.{is_select};
-ghost use Rattle.px_app.specs.Small.{small_document, status_of};
-ghost use Rattle.px_app.specs.Selected.{IsReport, IsErrorLine, IsDue};
+ghost use Rattle.px_app.specs.Answers.{IsReport, IsErrorLine, IsExpected};
+ghost use Rattle.px_app.specs.Statuses.{HasText, status_of};
+ghost use Rattle.px_app.specs.Words as words_for;
+ghost use Rattle.px_app.specs.Written.{IfBytesKnown, Puts, PutsPart};
 
 use crate::reply::reply_to;
+use crate::status::{
+    ANSWERED, NO_DOCUMENT, NO_MEMORY, OTHER_WORDS, READ_FAULT, REFUSED, TOO_LONG, WRITE_FAULT,
+};
+use px_expr::Context;
 use px_streams::{LIMIT, ReadError, Sink, Source, read_whole, write_whole};
 use px_types::{SmallStr, Steps};
 use std::alloc::Global;
 use std::sync::ledger::Ledger;
 
-/// Answers to the document that the source gives, and ends with a status. The words are `select`
-/// alone. Nothing is written before the whole text is there.
+/// Answers the document that the source gives, and ends with a status. The words are `select` or
+/// `filter` alone, which is the context of the document's expressions. Nothing is written before the
+/// whole text is there.
 ///
 /// | Status | When | Written |
 /// |---|---|---|
 /// | 0 | the document was answered | the report and a line feed |
-/// | 1 | the expression has a fault | its line |
-/// | 2 | the bytes are no document of one expression | nothing |
-/// | 3 | memory is wanting | nothing |
+/// | 1 | the expressions have a fault, of themselves or on these columns | its line |
+/// | 2 | the bytes are no document | nothing |
+/// | 3 | out of memory | nothing |
 /// | 4 | a read failed | nothing |
-/// | 5 | a write failed | a part at the front of the due text |
+/// | 5 | a write failed | a part at the front of the report or the line |
 /// | 6 | the words are others; nothing is read | nothing |
 /// | 7 | there are more than 64 MiB | nothing |
 pub fn run_document<S: Source, K: Sink, L: Ledger>(
@@ -33,59 +39,74 @@ pub fn run_document<S: Source, K: Sink, L: Ledger>(
     sink: &mut K,
     steps: &mut Steps<L>,
 ) -> u8
-    ensures range { result ≤ 7 }
+    ensures range { result ≤ TOO_LONG }
 
     // Other words come first: nothing is read, written or counted then.
-    ensures words { (result ≡ 6) ↔ (is_select words.now ≡ false) }
-    ensures untouched { result ≡ 6 → (source.new ≡ source.old) × (sink.new ≡ sink.old) × (steps.new ≡ steps.old) }
+    ensures words { (result ≡ OTHER_WORDS) ↔ (words_for.context_of words.now ≡ None) }
+    ensures untouched { result ≡ OTHER_WORDS → (source.new ≡ source.old) × (sink.new ≡ sink.old)
+        × (steps.new ≡ steps.old) }
 
-    // What is written, where the source tells its bytes.
-    ensures answered { result ≡ 0 → IfSome (S.left source.old) (λ bytes.
-        (text : List ℕ) × IsReport bytes text × Appends (K.held sink.old) (K.held sink.new) text) }
-    ensures refused { result ≡ 1 → IfSome (S.left source.old) (λ bytes.
-        (text : List ℕ) × IsErrorLine bytes text × Appends (K.held sink.old) (K.held sink.new) text) }
-    ensures cut_off { result ≡ 5 → IfSome (S.left source.old) (λ bytes.
-        (text : List ℕ) × (count : ℕ) × IsDue bytes text × (count < length text)
-        × Appends (K.held sink.old) (K.held sink.new) (take count text)) }
-    ensures quiet { result ≢ 0 → result ≢ 1 → result ≢ 5 → sink.new ≡ sink.old }
+    // What is written, where the source has known bytes.
+    ensures answered { result ≡ ANSWERED → IfBytesKnown (words_for.context_of words.now) (S.left source.old)
+        (λ context bytes. Puts (K.contents sink.old) (K.contents sink.new) (IsReport context bytes)) }
+    ensures refused { result ≡ REFUSED → IfBytesKnown (words_for.context_of words.now) (S.left source.old)
+        (λ context bytes. Puts (K.contents sink.old) (K.contents sink.new) (IsErrorLine context bytes)) }
+    ensures cut_off { result ≡ WRITE_FAULT → IfBytesKnown (words_for.context_of words.now) (S.left source.old)
+        (λ context bytes. PutsPart (K.contents sink.old) (K.contents sink.new) (IsExpected context bytes)) }
+    ensures sink_unchanged { result ≢ ANSWERED → result ≢ REFUSED → result ≢ WRITE_FAULT → sink.new ≡ sink.old }
 
     // How far the source was read.
-    ensures read_to_end { (result ≡ 0) ⊎ (result ≡ 1) ⊎ (result ≡ 2) ⊎ (result ≡ 5) → IsAtEnd (S.left source.new) }
-    ensures too_long { result ≡ 7 → TookMore (S.left source.old) (S.left source.new) LIMIT }
-    ensures cut_short { result ≡ 4 → TookAtMost (S.left source.old) (S.left source.new) LIMIT }
+    ensures read_to_end { (result ≡ ANSWERED) ⊎ (result ≡ REFUSED) ⊎ (result ≡ NO_DOCUMENT)
+        ⊎ (result ≡ WRITE_FAULT) → IsAtEnd (S.left source.new) }
+    ensures too_long { result ≡ TOO_LONG → TookMore (S.left source.old) (S.left source.new) LIMIT }
+    ensures cut_short { result ≡ READ_FAULT → TookAtMost (S.left source.old) (S.left source.new) LIMIT }
 
-    // The status is that of the bytes, but for want of memory and a fault that was counted.
-    ensures status { is_select words.now ≡ true → IfSome (S.left source.old) (λ bytes.
-        (result ≡ status_of LIMIT bytes) ⊎ (result ≡ 3) ⊎ (result ≡ 4) ⊎ (result ≡ 5)) }
-    ensures read_fault { result ≡ 4 → Rose (S.faults source.old) (S.faults source.new) }
-    ensures write_fault { result ≡ 5 → Rose (K.faults sink.old) (K.faults sink.new) }
-    ensures reads_later { S.faults source.old ≤ S.faults source.new }
-    ensures writes_later { K.faults sink.old ≤ K.faults sink.new }
+    // The status is that of the bytes, but for out of memory and a fault that was counted. A write
+    // fails only where a text is expected.
+    ensures status { IfBytesKnown (words_for.context_of words.now) (S.left source.old) (λ context bytes.
+        (result ≡ status_of LIMIT context bytes) ⊎ (result ≡ NO_MEMORY) ⊎ (result ≡ READ_FAULT)
+        ⊎ ((result ≡ WRITE_FAULT) × HasText (status_of LIMIT context bytes))) }
+    ensures read_fault { result ≡ READ_FAULT → Rose (S.faults source.old) (S.faults source.new) }
+    ensures write_fault { result ≡ WRITE_FAULT → Rose (K.faults sink.old) (K.faults sink.new) }
+    ensures read_faults_count_up { S.faults source.old ≤ S.faults source.new }
+    ensures write_faults_count_up { K.faults sink.old ≤ K.faults sink.new }
 {
-    if !select_alone(words) {
-        return 6;
-    }
+    let Some(context) = context_of(words) else {
+        return OTHER_WORDS;
+    };
     match read_whole(alloc, source) {
-        Err(ReadError::ReadFault) => 4,
-        Err(ReadError::TooLarge) => 7,
-        Err(ReadError::OutOfMemory) => 3,
-        Ok(bytes) => match reply_to(alloc, bytes, steps) {
-            Err(_) => 3,
-            Ok(None) => 2,
+        Err(ReadError::ReadFault) => READ_FAULT,
+        Err(ReadError::TooLarge) => TOO_LONG,
+        Err(ReadError::OutOfMemory) => NO_MEMORY,
+        Ok(bytes) => match reply_to(alloc, bytes, context, steps) {
+            Err(_) => NO_MEMORY,
+            Ok(None) => NO_DOCUMENT,
             Ok(Some(reply)) => match write_whole(sink, reply.text.as_slice()) {
                 Ok(()) => reply.status,
-                Err(_) => 5,
+                Err(_) => WRITE_FAULT,
             },
         },
     }
 }
 
-/// Whether the words are the one word `select`.
-fn select_alone(words: &[SmallStr]) -> bool
-    ensures { result ≡ is_select words.now }
+/// What the words ask for, or None where they are none that the program knows.
+fn context_of(words: &[SmallStr]) -> Option<Context>
+    ensures { result ≡ words_for.context_of words.now }
 {
     match words {
-        [word] => word.as_str() == "select",
-        _ => false,
+        [word] => context_named(word.as_str()),
+        _ => None,
+    }
+}
+
+fn context_named(word: &str) -> Option<Context>
+    ensures { result ≡ words_for.context_named word.now }
+{
+    if word == "select" {
+        Some(Context::Select)
+    } else if word == "filter" {
+        Some(Context::Filter)
+    } else {
+        None
     }
 }

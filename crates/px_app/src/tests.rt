@@ -1,6 +1,10 @@
+//! Calls over sources and sinks. What is answered to which bytes are the cases of px_cases.
 ghost use Rattle.std.specs.Prelude.{◌≡◌, None};
 
-use crate::{Failed, MemorySink, MemorySource, Source, run_document};
+use crate::{
+    ANSWERED, Failed, MemorySink, MemorySource, NO_DOCUMENT, OTHER_WORDS, READ_FAULT, REFUSED,
+    Source, TOO_LONG, WRITE_FAULT, run_document,
+};
 use px_types::{List, SmallStr, Steps};
 use std::alloc::Global;
 use std::marker::Brand;
@@ -8,7 +12,7 @@ use std::sync::ledger::{Blank, Ledger};
 use std::test::Fail;
 
 const WORKED: &str =
-    r#"{"columns":[{"name":"a","dtype":"Int32","values":[1,null,3]}],"exprs":[{"binary":[{"col":"a"},"Plus",{"lit":{"dtype":"Int32","value":5}}]}]}"#;
+    r#"{"columns":[{"name":"a","dtype":"Int32","values":[1,null,3]}],"exprs":[{"binary":[{"col":"a"},"Plus",{"lit":5}]}]}"#;
 
 const WORKED_REPORT: &str =
     r#"{"columns":[{"dtype":"Int32","name":"a","values":[6,null,8]}],"rewrites":0,"trees":[{"binary":[{"col":"a"},"Plus",{"lit":{"dtype":"Int32","value":5}}]}]}"#;
@@ -55,135 +59,97 @@ fn status<S: Source>(
     counted::<S, Brand>(alloc, words, source, sink, Blank::new(1))
 }
 
-/// Whether `select` over the document ends with the status and writes just the text.
-fn answers(alloc: Global, document: &[u8], expected: u8, text: &str) -> Result<bool, Fail> {
-    let mut source = MemorySource::new(alloc, document, &[])?;
+/// The run ends with the status and writes just the text, and a line feed where there is one.
+fn answers(
+    alloc: Global,
+    word: &str,
+    document: &str,
+    expected: u8,
+    text: &str,
+) -> Result<(), Fail> {
+    let mut source = MemorySource::new(alloc, document.as_bytes(), &[])?;
     let mut sink = MemorySink::new(alloc, 4096, &[])?;
-    let answered = status(alloc, &["select"], &mut source, &mut sink)?;
-    Ok(answered == expected && sink.held() == text.as_bytes())
-}
-
-fn line(alloc: Global, text: &str) -> Result<String, Fail> {
-    let mut line = String::from_str(alloc, text)?;
-    line.push_str("\n")?;
-    Ok(line)
+    let answered = status(alloc, &[word], &mut source, &mut sink)?;
+    let contents = sink.contents();
+    if answered == expected && contents.strip_suffix(b"\n").unwrap_or(contents) == text.as_bytes() {
+        Ok(())
+    } else {
+        Err(document)?
+    }
 }
 
 #[test]
-fn documents_give_reports(rt: HostRuntime) -> Result<(), Fail> {
+fn a_document_is_answered_under_its_word(rt: HostRuntime) -> Result<(), Fail> {
     let alloc = rt.alloc();
-    let cases = [
-        (WORKED, WORKED_REPORT),
-        // Sums wrap, in a literal as in a column.
-        (
-            r#"{"columns":[],"exprs":[{"binary":[{"lit":{"dtype":"Int32","value":2147483647}},"Plus",{"lit":{"dtype":"Int32","value":1}}]}]}"#,
-            r#"{"columns":[{"dtype":"Int32","name":"literal","values":[-2147483648]}],"rewrites":1,"trees":[{"lit":{"dtype":"Int32","value":-2147483648}}]}"#,
-        ),
-        (
-            r#"{"columns":[{"name":"a","dtype":"Int32","values":[2147483647]}],"exprs":[{"binary":[{"col":"a"},"Plus",{"lit":{"dtype":"Int32","value":1}}]}]}"#,
-            r#"{"columns":[{"dtype":"Int32","name":"a","values":[-2147483648]}],"rewrites":0,"trees":[{"binary":[{"col":"a"},"Plus",{"lit":{"dtype":"Int32","value":1}}]}]}"#,
-        ),
-        // Each sum of literals is one rewrite.
-        (
-            r#"{"columns":[],"exprs":[{"binary":[{"binary":[{"lit":{"dtype":"Int32","value":1}},"Plus",{"lit":{"dtype":"Int32","value":2}}]},"Plus",{"binary":[{"lit":{"dtype":"Int32","value":3}},"Plus",{"lit":{"dtype":"Int32","value":4}}]}]}]}"#,
-            r#"{"columns":[{"dtype":"Int32","name":"literal","values":[10]}],"rewrites":3,"trees":[{"lit":{"dtype":"Int32","value":10}}]}"#,
-        ),
-        // The outer alias names the column, and JSON escapes the name.
-        (
-            r#"{"exprs":[{"alias":[{"alias":[{"col":"*"},"x"]},"\"\n"]}],"columns":[{"values":[null],"dtype":"Int32","name":"*"}]}"#,
-            r#"{"columns":[{"dtype":"Int32","name":"\"\n","values":[null]}],"rewrites":0,"trees":[{"alias":[{"alias":[{"col":"*"},"x"]},"\"\n"]}]}"#,
-        ),
-    ];
-    for (document, report) in cases {
-        let text = line(alloc, report)?;
-        assert!(rt;
-            answers(alloc, document.as_bytes(), 0, text.as_str())?,
-            "{document}"
-        );
-    }
-    Ok(())
+    answers(alloc, "select", WORKED, ANSWERED, WORKED_REPORT)?;
+    answers(
+        alloc,
+        "filter",
+        WORKED,
+        REFUSED,
+        r#"{"error":"InvalidOperation"}"#,
+    )?;
+    answers(alloc, "select", "[]", NO_DOCUMENT, "")
 }
 
-#[test]
-fn an_unknown_column_is_named(rt: HostRuntime) -> Result<(), Fail> {
-    let alloc = rt.alloc();
-    let cases = [
-        (
-            r#"{"columns":[],"exprs":[{"col":"b"}]}"#,
-            r#"{"error":"ColumnNotFound","name":"b"}"#,
-        ),
-        // The left operand comes first.
-        (
-            r#"{"columns":[],"exprs":[{"alias":[{"binary":[{"col":"\\"},"Plus",{"col":"c"}]},"d"]}]}"#,
-            r#"{"error":"ColumnNotFound","name":"\\"}"#,
-        ),
-    ];
-    for (document, error) in cases {
-        let text = line(alloc, error)?;
-        assert!(rt;
-            answers(alloc, document.as_bytes(), 1, text.as_str())?,
-            "{document}"
-        );
+/// The words are none that the program knows, and nothing is read or written.
+fn are_unknown(alloc: Global, words: &[&str]) -> Result<(), Fail> {
+    let mut source = MemorySource::new(alloc, WORKED.as_bytes(), &[])?;
+    let mut sink = MemorySink::new(alloc, 4096, &[])?;
+    let answered = status(alloc, words, &mut source, &mut sink)?;
+    if answered == OTHER_WORDS && source.left() == WORKED.as_bytes() && sink.contents().is_empty() {
+        Ok(())
+    } else {
+        Err("known words")?
     }
-    Ok(())
-}
-
-#[test]
-fn other_bytes_are_no_document(rt: HostRuntime) -> Result<(), Fail> {
-    let alloc = rt.alloc();
-    let cases: [&[u8]; 6] = [
-        b"",
-        &WORKED.as_bytes()[..100],
-        b"{\"columns\":[],\"exprs\":[]}",
-        b"{\"columns\":[],\"exprs\":[{\"col\":\"a\"},{\"col\":\"a\"}]}",
-        b"{\"columns\":[],\"exprs\":[{\"lit\":1.5}]}",
-        b"{\"columns\":[],\"exprs\":[{\"col\":\"\xff\"}]}",
-    ];
-    for document in cases {
-        assert!(rt; answers(alloc, document, 2, "")?);
-    }
-    Ok(())
 }
 
 #[test]
 fn other_words_read_nothing(rt: HostRuntime) -> Result<(), Fail> {
     let alloc = rt.alloc();
-    let cases: [&[&str]; 4] = [&[], &["filter"], &["select", "now"], &["Select"]];
-    for words in cases {
-        let mut source = MemorySource::new(alloc, WORKED.as_bytes(), &[])?;
-        let mut sink = MemorySink::new(alloc, 4096, &[])?;
-        assert_eq!(rt; status(alloc, words, &mut source, &mut sink)?, 6);
-        assert_eq!(rt; source.left(), WORKED.as_bytes());
-        assert_eq!(rt; sink.held().len(), 0);
+    are_unknown(alloc, &[])?;
+    are_unknown(alloc, &["generate", "1"])?;
+    are_unknown(alloc, &["select", "now"])?;
+    are_unknown(alloc, &["Select"])
+}
+
+/// A run over a source whose reads at these numbers fail, into a sink with this room.
+fn fails(
+    alloc: Global,
+    document: &str,
+    reads: &[u64],
+    room: usize,
+    expected: u8,
+    contents: &str,
+) -> Result<(), Fail> {
+    let mut source = MemorySource::new(alloc, document.as_bytes(), reads)?;
+    let mut sink = MemorySink::new(alloc, room, &[])?;
+    let answered = status(alloc, &["select"], &mut source, &mut sink)?;
+    if answered == expected && sink.contents() == contents.as_bytes() {
+        Ok(())
+    } else {
+        Err(document)?
     }
-    Ok(())
 }
 
 #[test]
 fn faults_of_reading_and_writing_are_told(rt: HostRuntime) -> Result<(), Fail> {
     let alloc = rt.alloc();
-    let mut source = MemorySource::new(alloc, WORKED.as_bytes(), &[0])?;
-    let mut sink = MemorySink::new(alloc, 4096, &[])?;
-    assert_eq!(rt; status(alloc, &["select"], &mut source, &mut sink)?, 4);
-    assert_eq!(rt; sink.held().len(), 0);
+    fails(alloc, WORKED, &[0], 4096, READ_FAULT, "")?;
+    fails(alloc, WORKED, &[1], 4096, READ_FAULT, "")?;
+    fails(alloc, WORKED, &[], 10, WRITE_FAULT, "{\"columns\"")?;
     let unknown = r#"{"columns":[],"exprs":[{"col":"b"}]}"#;
-    for (document, held) in [
-        (WORKED, b"{\"columns\"".as_slice()),
-        (unknown, b"{\"error\":\"".as_slice()),
-    ] {
-        let mut source = MemorySource::new(alloc, document.as_bytes(), &[])?;
-        let mut sink = MemorySink::new(alloc, 10, &[])?;
-        assert_eq!(rt; status(alloc, &["select"], &mut source, &mut sink)?, 5);
-        assert_eq!(rt; sink.held(), held);
-    }
-    Ok(())
+    fails(alloc, unknown, &[], 10, WRITE_FAULT, "{\"error\":\"")
 }
 
 #[test]
 fn more_than_64_mib_are_too_many(rt: HostRuntime) -> Result<(), Fail> {
     let alloc = rt.alloc();
     let mut sink = MemorySink::new(alloc, 16, &[])?;
-    assert_eq!(rt; status(alloc, &["select"], &mut Endless {}, &mut sink)?, 7);
-    assert_eq!(rt; sink.held().len(), 0);
+    assert_eq!(rt;
+        status(alloc, &["select"], &mut Endless {}, &mut sink)?,
+        TOO_LONG
+    );
+    assert_eq!(rt; sink.contents().len(), 0);
     Ok(())
 }

@@ -2,7 +2,7 @@
 use Rattle.std.proofs.Common.{◌≡◌, ℕ, Bool, List, [], ◌∷◌, Some, None, refl, sym, ◌∙◌, ap, subst, map}
 use Rattle.std.specs.List.{slice_get}
 use Rattle.px_types.specs.declared.dtype.DataType.{DataType}
-use Rattle.px_types.specs.declared.kinds.CastOptions.{CastOptions}
+use Rattle.px_types.specs.declared.type_parts.CastOptions.{CastOptions}
 use Rattle.px_types.specs.declared.operator.Operator.{Operator}
 use Rattle.px_types.specs.declared.options.FunctionOptions.{FunctionOptions}
 use Rattle.px_types.specs.declared.function.FunctionExpr.{FunctionExpr}

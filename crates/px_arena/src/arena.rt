@@ -59,7 +59,8 @@ impl Arena {
         ensures holds { IfOk result (λ n. slice_get self.new n.0 ≡ Some expr) }
         ensures added { OnOk result (self.new ≡ self.old ++ expr ∷ []) }
         ensures kept { IsGrown self.old self.new }
-        ensures denotes { IfOk result (λ n. (us : Trees) → DenoteAll self.old (inputs_of expr) us → Denotes self.new n.0 (tree (root_of expr) us)) }
+        ensures denotes { IfOk result (λ n. (us : Trees) → DenoteAll self.old (inputs_of expr) us
+            → Denotes self.new n.0 (tree (root_of expr) us)) }
         ensures err { OnErr result ((self.new ≡ self.old) × (result ≡ Err PlanError.OutOfMemory)) }
     {
         let node = Node(self.items.len());
@@ -73,8 +74,11 @@ impl Arena {
         requires inputs { (m : ℕ) → IsIn m (inputs_of expr) → m < length self.old }
         requires apart { (m : ℕ) → IsIn m (inputs_of expr) → Reaches self.old m node.0 → ⊥ }
         ensures items { self.new ≡ slice_set self.old node.0 expr }
-        ensures other { (n : ℕ) (u : Tree) → (Reaches self.old n node.0 → ⊥) → Denotes self.old n u → Denotes self.new n u }
-        ensures replaced { (t t' : Tree) → Denotes self.old node.0 t → Fits self.old node.0 expr t' → (ns : List ℕ) (us : Trees) → DenoteAll self.old ns us → (vs : Trees) × DenoteAll self.new ns vs × ReplacedAll t t' us vs }
+        ensures other { (n : ℕ) (u : Tree) → (Reaches self.old n node.0 → ⊥) → Denotes self.old n u
+            → Denotes self.new n u }
+        ensures replaced { (t t' : Tree) → Denotes self.old node.0 t → Fits self.old node.0 expr t'
+            → (ns : List ℕ) (us : Trees) → DenoteAll self.old ns us → (vs : Trees) × DenoteAll self.new ns vs
+            × ReplacedAll t t' us vs }
         ensures ticks { steps.new ≡ steps.old + 1 }
     {
         self.items[node.0] = expr;

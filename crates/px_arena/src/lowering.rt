@@ -42,7 +42,8 @@ fn lower_three(
     requires second { IsLowerable (tree_of second.now) }
     requires third { IsLowerable (tree_of third.now) }
     ensures kept { IsGrown arena.old arena.new }
-    ensures stands { IfOk result (λ ns. AllStandFor arena.new (ns.0.0 ∷ ns.1.0 ∷ ns.2.0 ∷ []) (first.now ∷ second.now ∷ third.now ∷ [])) }
+    ensures stands { IfOk result (λ ns. AllStandFor arena.new (ns.0.0 ∷ ns.1.0 ∷ ns.2.0 ∷ []) (first.now
+        ∷ second.now ∷ third.now ∷ [])) }
     ensures err { OnErr result (result ≡ Err PlanError.OutOfMemory) }
 {
     let first = lower_expr(alloc, arena, first)?;

@@ -1,3 +1,3 @@
 pub mod Answer
 pub mod Exact
-pub mod Shown
+pub mod ErrorTexts

@@ -7,17 +7,18 @@ use std::error::Error;
 use std::fmt;
 
 /// Why a call gives no answer. `OutOfMemory` may come from every call that takes memory; each other
-/// error only by the cause that the call's contract states.
+/// error only by the cause that the call's contract states. It stands for Polars' `PolarsError`.
 #[derive(Debug, Drop, PartialEq, Eq)]
 pub enum PlanError {
+    /// No memory was left.
     OutOfMemory,
-    /// The expression names a column that the schema lacks.
+    /// The expression names a column that the schema lacks, by this name.
     ColumnNotFound(SmallStr),
     /// An expression, a type or a value for which there is no rule.
     InvalidOperation,
-    /// A name that comes twice.
+    /// This name comes twice.
     Duplicate(SmallStr),
-    /// Lengths that do not join.
+    /// Lengths that do not broadcast.
     ShapeMismatch,
     /// A strict cast of a value that its target lacks.
     InvalidCast,
@@ -30,7 +31,7 @@ pub enum PlanError {
 }
 
 impl fmt::Display for PlanError {
-    ghost use Rattle.px_base.specs.Shown.{error_text};
+    ghost use Rattle.px_base.specs.ErrorTexts.{error_text};
 
     ghost output = { λ e. Some (error_text e) };
 

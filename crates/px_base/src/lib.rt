@@ -1,4 +1,4 @@
-//! What every crate of px stands on: the planner's error, texts, lists and boxes that contracts see
+//! What every crate of px stands on: the planner's error, strings, lists and boxes that contracts see
 //! as plain data, and a counter of steps that takes no bytes.
 #![tactic(auto)]
 

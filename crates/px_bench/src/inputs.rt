@@ -1,9 +1,9 @@
 //! The rows and columns that the work is done on.
 ghost use Rattle.std.specs.Prelude.{◌≡◌, IfOk};
-ghost use Rattle.px_types.specs.declared.value_type.ValueType.TheVariants as kind;
+ghost use Rattle.px_types.specs.declared.value_type.ValueType.TheVariants as value_type;
 
+use px_arrays::IntegerArrayBuilder;
 use px_column::{Buffer, Column};
-use px_rows::NumbersBuilder;
 use px_types::{DataType, PlanError, SmallStr};
 use std::alloc::Global;
 
@@ -20,8 +20,8 @@ pub struct Sources {
 pub struct Columns {
     pub truths: Column,
     pub numbers: Column,
-    ghost boolean: { truths.values.kind ≡ kind.Boolean },
-    ghost integer: { numbers.values.kind ≡ kind.Int32 },
+    ghost boolean: { truths.values.value_type ≡ value_type.Boolean },
+    ghost integer: { numbers.values.value_type ≡ value_type.Int32 },
 }
 
 /// What the work is done on: the columns `first` and `second`, and the rows of `first`.
@@ -118,19 +118,19 @@ fn widened(alloc: Global, numbers: &[Option<i32>]) -> Result<Vec<Option<i128>>, 
 }
 
 pub fn truth_column(alloc: Global, flags: &[Option<bool>]) -> Result<Column, PlanError>
-    ensures { IfOk result (λ c. c.values.kind ≡ kind.Boolean) }
+    ensures { IfOk result (λ c. c.values.value_type ≡ value_type.Boolean) }
 {
     Column::new_bool(alloc, "p", flags)
 }
 
 /// A column of numbers that are pushed row by row.
 pub fn number_column(alloc: Global, numbers: &[Option<i32>]) -> Result<Column, PlanError>
-    ensures { IfOk result (λ c. c.values.kind ≡ kind.Int32) }
+    ensures { IfOk result (λ c. c.values.value_type ≡ value_type.Int32) }
 {
     if numbers.len() > u32::MAX as usize {
         return Err(PlanError::TooLong);
     }
-    let mut builder = NumbersBuilder::with_capacity(alloc, numbers.len())?;
+    let mut builder = IntegerArrayBuilder::with_capacity(alloc, numbers.len())?;
     for number in numbers {
         builder.push(*number)?;
     }

@@ -2,8 +2,8 @@
 ghost use Rattle.std.specs.Prelude.{◌≡◌};
 
 use crate::inputs::{Inputs, checked_column, number_column, truth_column};
-use px_column::{Column, is_null, kleene_and};
-use px_kernels::{arith, cast, compare, negate, zip_with};
+use px_column::Column;
+use px_kernels::{arith, cast, compare, is_null, kleene_and, negate, zip_with};
 use px_types::{AnyValue, CastOptions, DataType, Operator, PlanError};
 use std::alloc::Global;
 

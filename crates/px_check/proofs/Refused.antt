@@ -2,7 +2,7 @@
 use Rattle.std.proofs.Common.{◌≡◌, ℕ, Bool, List, [], ◌∷◌, Result, sym, ap, subst, ◌∙◌}
 use Rattle.px_base.specs.Answer.{AnswersOrMemory}
 use Rattle.px_base.specs.declared.error.PlanError.{PlanError}
-use Rattle.px_types.specs.declared.kinds.QuantileMethod.{QuantileMethod}
+use Rattle.px_types.specs.declared.type_parts.QuantileMethod.{QuantileMethod}
 use Rattle.px_expr.specs.declared.expr.Expr.{Expr, fold-roll-Expr}
 use Rattle.px_expr.specs.declared.expr.Expr.TheVariants as expr
 use Rattle.px_expr.specs.declared.expr.AggExpr.{AggExpr, fold-AggExpr, fold-roll-AggExpr}
@@ -14,8 +14,9 @@ use Rattle.px_expr.specs.Tree as root
 use Rattle.px_meaning.specs.Check as check
 use Rattle.px_meaning.specs.Check.{find, found}
 use Rattle.px_meaning.specs.Signatures.{signature}
-use Rattle.px_check.specs.declared.found.Found.{Found}
-use Rattle.px_check.specs.Found.{seen, refused_over}
+use Rattle.px_coercion.specs.declared.found.Found.{Found}
+use Rattle.px_coercion.specs.Found.{seen}
+use Rattle.px_check.specs.Inputs.{refused_over}
 
 pub refused-Gather : (c : Catalog) (x y : Expr) (scalar : Bool) → found c (tree_of (expr.Gather x y scalar)) ≡ refused_over (found c (tree_of x) ∷ found c (tree_of y) ∷ [])
 unfolding signature

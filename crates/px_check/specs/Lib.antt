@@ -1,2 +1,2 @@
-pub mod Found
-pub mod Held
+pub use Rattle.px_coercion.specs.CheckedTree
+pub mod Inputs

@@ -1,4 +1,7 @@
 //! The check of expressions, and of lists of them.
+//!
+//! Where an expression is dropped, `drop` is called by name: the proof of that is short, and at the end of
+//! a scope it would go through each variant of the expression.
 ghost use Rattle.std.specs.Prelude.{◌≡◌, [], ◌∷◌, ◌++◌, map, Ok, IfOk, IsErr};
 ghost use Rattle.px_base.specs.Answer.{AnswersOrMemory};
 ghost use Rattle.px_types.specs.Schemas.{names_of};
@@ -6,20 +9,18 @@ ghost use Rattle.px_expr.specs.declared.context.Context.TheVariants.{Select};
 ghost use Rattle.px_expr.specs.Tree.{Alias, Binary, Cast, Ternary, Function, tree_of};
 ghost use Rattle.px_expr.specs.Options.{options_of, joined};
 ghost use Rattle.px_meaning.specs.Names.{name};
-ghost use Rattle.px_meaning.specs.Check.{Typed, then_, found, gathered, find, as_asked, with_names};
+ghost use Rattle.px_meaning.specs.Check.{Typed, then_, found, all_results, find, as_asked, with_names};
 ghost use Rattle.px_meaning.specs.Check as check;
 ghost use Rattle.px_expr.specs.Plan.{catalog_of};
-ghost use Rattle.px_check.specs.Found.{seen, options_in, at_node, found_all, refused_over, GivesSeen};
-ghost use Rattle.px_check.specs.Held.{typed_of};
+ghost use Rattle.px_coercion.specs.Found.{seen, options_in, GivesSeen};
+ghost use Rattle.px_coercion.specs.CheckedTree.{typed_of};
+ghost use Rattle.px_check.specs.Inputs.{at_node, found_all, refused_over};
 
-use crate::checked::{Checked, CheckedList};
-use crate::found::Found;
-use crate::kinds::is_boolean;
-use crate::rules;
+use px_coercion::{Checked, CheckedList, Found};
 use px_expr::{AggExpr, Context, Expr, KernelList, Kernels, Plan, PlanContext};
 use px_types::{
     CastOptions, DataType, Field, FieldList, FunctionExpr, FunctionOptions, List, Operator,
-    PlanError, Schema, SmallStr,
+    PlanError, Schema, SmallStr, ValueType,
 };
 use std::alloc::Global;
 
@@ -31,12 +32,13 @@ fn check_found<K: Kernels>(
     kernels: &K,
     expr: &Expr,
 ) -> Result<Found, PlanError>
-    ensures answer { AnswersOrMemory seen result (found (catalog_of schema.now (K.definitions kernels.now)) (tree_of expr.now)) }
+    ensures answer { AnswersOrMemory seen result
+        (found (catalog_of schema.now (K.definitions kernels.now)) (tree_of expr.now)) }
     ensures kept { IfOk result (λ f. options_in f ≡ options_of expr.now) }
 {
     match expr {
-        Expr::Column(name) => rules::column(alloc, schema, name),
-        Expr::Literal(value) => rules::literal(alloc, value),
+        Expr::Column(name) => px_coercion::column(alloc, schema, name),
+        Expr::Literal(value) => px_coercion::literal(alloc, value),
         Expr::Alias(input, name) => check_alias(alloc, schema, kernels, input.get(), name),
         Expr::BinaryExpr { left, op, right } => check_binary(
             alloc,
@@ -112,11 +114,13 @@ fn check_alias<K: Kernels>(
     input: &Expr,
     name: &SmallStr,
 ) -> Result<Found, PlanError>
-    ensures answer { AnswersOrMemory seen result (find (catalog_of schema.now (K.definitions kernels.now)) (Alias name.now) (found (catalog_of schema.now (K.definitions kernels.now)) (tree_of input.now) ∷ [])) }
+    ensures answer { AnswersOrMemory seen result
+        (find (catalog_of schema.now (K.definitions kernels.now)) (Alias name.now)
+        (found (catalog_of schema.now (K.definitions kernels.now)) (tree_of input.now) ∷ [])) }
     ensures kept { IfOk result (λ f. options_in f ≡ options_of input.now) }
 {
     let input = check_found(alloc, schema, kernels, input)?;
-    rules::alias(alloc, input, name)
+    px_coercion::alias(alloc, input, name)
 }
 
 #[cycle(check)]
@@ -129,11 +133,13 @@ fn check_cast<K: Kernels>(
     dtype: &DataType,
     options: CastOptions,
 ) -> Result<Found, PlanError>
-    ensures answer { AnswersOrMemory seen result (find (catalog_of schema.now (K.definitions kernels.now)) (Cast dtype.now options) (found (catalog_of schema.now (K.definitions kernels.now)) (tree_of input.now) ∷ [])) }
+    ensures answer { AnswersOrMemory seen result
+        (find (catalog_of schema.now (K.definitions kernels.now)) (Cast dtype.now options)
+        (found (catalog_of schema.now (K.definitions kernels.now)) (tree_of input.now) ∷ [])) }
     ensures kept { IfOk result (λ f. options_in f ≡ options_of input.now) }
 {
     let input = check_found(alloc, schema, kernels, input)?;
-    rules::cast(alloc, input, dtype, options)
+    px_coercion::cast(alloc, input, dtype, options)
 }
 
 #[cycle(check)]
@@ -146,11 +152,14 @@ fn check_binary<K: Kernels>(
     op: Operator,
     right: &Expr,
 ) -> Result<Found, PlanError>
-    ensures answer { AnswersOrMemory seen result (find (catalog_of schema.now (K.definitions kernels.now)) (Binary op) (found (catalog_of schema.now (K.definitions kernels.now)) (tree_of left.now) ∷ found (catalog_of schema.now (K.definitions kernels.now)) (tree_of right.now) ∷ [])) }
+    ensures answer { AnswersOrMemory seen result
+        (find (catalog_of schema.now (K.definitions kernels.now)) (Binary op)
+        (found (catalog_of schema.now (K.definitions kernels.now)) (tree_of left.now)
+        ∷ found (catalog_of schema.now (K.definitions kernels.now)) (tree_of right.now) ∷ [])) }
     ensures kept { IfOk result (λ f. options_in f ≡ options_of left.now ++ options_of right.now) }
 {
     let (left, right) = check_two(alloc, schema, kernels, left, right)?;
-    rules::binary(alloc, left, op, right)
+    px_coercion::binary(alloc, left, op, right)
 }
 
 #[cycle(check)]
@@ -163,8 +172,13 @@ fn check_ternary<K: Kernels>(
     truthy: &Expr,
     falsy: &Expr,
 ) -> Result<Found, PlanError>
-    ensures answer { AnswersOrMemory seen result (find (catalog_of schema.now (K.definitions kernels.now)) Ternary (found (catalog_of schema.now (K.definitions kernels.now)) (tree_of predicate.now) ∷ found (catalog_of schema.now (K.definitions kernels.now)) (tree_of truthy.now) ∷ found (catalog_of schema.now (K.definitions kernels.now)) (tree_of falsy.now) ∷ [])) }
-    ensures kept { IfOk result (λ f. options_in f ≡ options_of predicate.now ++ options_of truthy.now ++ options_of falsy.now) }
+    ensures answer { AnswersOrMemory seen result
+        (find (catalog_of schema.now (K.definitions kernels.now)) Ternary
+        (found (catalog_of schema.now (K.definitions kernels.now)) (tree_of predicate.now)
+        ∷ found (catalog_of schema.now (K.definitions kernels.now)) (tree_of truthy.now)
+        ∷ found (catalog_of schema.now (K.definitions kernels.now)) (tree_of falsy.now) ∷ [])) }
+    ensures kept { IfOk result (λ f. options_in f
+        ≡ options_of predicate.now ++ options_of truthy.now ++ options_of falsy.now) }
 {
     let predicate = check_found(alloc, schema, kernels, predicate)?;
     check_branches(alloc, schema, kernels, predicate, truthy, falsy)
@@ -180,11 +194,20 @@ fn check_branches<K: Kernels>(
     truthy: &Expr,
     falsy: &Expr,
 ) -> Result<Found, PlanError>
-    ensures answer { AnswersOrMemory seen result (find (catalog_of schema.now (K.definitions kernels.now)) Ternary (Ok (seen predicate) ∷ found (catalog_of schema.now (K.definitions kernels.now)) (tree_of truthy.now) ∷ found (catalog_of schema.now (K.definitions kernels.now)) (tree_of falsy.now) ∷ [])) }
-    ensures kept { IfOk result (λ f. options_in f ≡ options_in predicate ++ options_of truthy.now ++ options_of falsy.now) }
+    ensures answer { AnswersOrMemory seen result
+        (find (catalog_of schema.now (K.definitions kernels.now)) Ternary (Ok (seen predicate)
+        ∷ found (catalog_of schema.now (K.definitions kernels.now)) (tree_of truthy.now)
+        ∷ found (catalog_of schema.now (K.definitions kernels.now)) (tree_of falsy.now) ∷ [])) }
+    ensures kept { IfOk result (λ f. options_in f
+        ≡ options_in predicate ++ options_of truthy.now ++ options_of falsy.now) }
 {
-    let (truthy, falsy) = check_two(alloc, schema, kernels, truthy, falsy)?;
-    rules::ternary(alloc, predicate, truthy, falsy)
+    match check_two(alloc, schema, kernels, truthy, falsy) {
+        Ok((truthy, falsy)) => px_coercion::ternary(alloc, predicate, truthy, falsy),
+        Err(e) => {
+            drop(predicate);
+            Err(e)
+        }
+    }
 }
 
 #[cycle(check)]
@@ -195,13 +218,24 @@ fn check_two<K: Kernels>(
     left: &Expr,
     right: &Expr,
 ) -> Result<(Found, Found), PlanError>
-    ensures answer { AnswersOrMemory {B = check.Found × check.Found} (λ p. (seen p.0, seen p.1)) result (then_ (found (catalog_of schema.now (K.definitions kernels.now)) (tree_of left.now)) (λ a. then_ (found (catalog_of schema.now (K.definitions kernels.now)) (tree_of right.now)) (λ b. Ok (a, b)))) }
-    ensures both { IfOk result (λ p. (found (catalog_of schema.now (K.definitions kernels.now)) (tree_of left.now) ≡ Ok (seen p.0)) × (found (catalog_of schema.now (K.definitions kernels.now)) (tree_of right.now) ≡ Ok (seen p.1))) }
+    ensures answer { AnswersOrMemory {B = check.Found
+        × check.Found} (λ p. (seen p.0, seen p.1)) result
+        (then_ (found (catalog_of schema.now (K.definitions kernels.now)) (tree_of left.now))
+        (λ a. then_ (found (catalog_of schema.now (K.definitions kernels.now)) (tree_of right.now))
+        (λ b. Ok (a, b)))) }
+    ensures both { IfOk result (λ p. (found (catalog_of schema.now (K.definitions kernels.now)) (tree_of left.now)
+        ≡ Ok (seen p.0)) × (found (catalog_of schema.now (K.definitions kernels.now)) (tree_of right.now)
+        ≡ Ok (seen p.1))) }
     ensures kept { IfOk result (λ p. (options_in p.0 ≡ options_of left.now) × (options_in p.1 ≡ options_of right.now)) }
 {
     let left = check_found(alloc, schema, kernels, left)?;
-    let right = check_found(alloc, schema, kernels, right)?;
-    Ok((left, right))
+    match check_found(alloc, schema, kernels, right) {
+        Ok(right) => Ok((left, right)),
+        Err(e) => {
+            drop(left);
+            Err(e)
+        }
+    }
 }
 
 #[cycle(check)]
@@ -214,11 +248,13 @@ fn check_function<K: Kernels>(
     function: &FunctionExpr,
     options: FunctionOptions,
 ) -> Result<Found, PlanError>
-    ensures answer { AnswersOrMemory seen result (then_ (found_all (catalog_of schema.now (K.definitions kernels.now)) (map tree_of input.now)) (at_node (catalog_of schema.now (K.definitions kernels.now)) (Function function.now))) }
+    ensures answer { AnswersOrMemory seen result
+        (then_ (found_all (catalog_of schema.now (K.definitions kernels.now)) (map tree_of input.now))
+        (at_node (catalog_of schema.now (K.definitions kernels.now)) (Function function.now))) }
     ensures kept { IfOk result (λ f. options_in f ≡ options ∷ joined (map options_of input.now)) }
 {
     let inputs = check_inputs(alloc, schema, kernels, input)?;
-    rules::function(alloc, inputs, function, options)
+    px_coercion::function(alloc, inputs, function, options)
 }
 
 // A fault of an input comes before that of a node that is refused.
@@ -229,10 +265,11 @@ fn refuse<K: Kernels>(
     kernels: &K,
     input: &Expr,
 ) -> Result<Found, PlanError>
-    ensures answer { AnswersOrMemory seen result (refused_over (found (catalog_of schema.now (K.definitions kernels.now)) (tree_of input.now) ∷ [])) }
+    ensures answer { AnswersOrMemory seen result
+        (refused_over (found (catalog_of schema.now (K.definitions kernels.now)) (tree_of input.now) ∷ [])) }
     ensures refused { IsErr result }
 {
-    check_found(alloc, schema, kernels, input)?;
+    drop(check_found(alloc, schema, kernels, input)?);
     Err(PlanError::InvalidOperation)
 }
 
@@ -245,10 +282,12 @@ fn refuse_two<K: Kernels>(
     input: &Expr,
     other: &Expr,
 ) -> Result<Found, PlanError>
-    ensures answer { AnswersOrMemory seen result (refused_over (found (catalog_of schema.now (K.definitions kernels.now)) (tree_of input.now) ∷ found (catalog_of schema.now (K.definitions kernels.now)) (tree_of other.now) ∷ [])) }
+    ensures answer { AnswersOrMemory seen result
+        (refused_over (found (catalog_of schema.now (K.definitions kernels.now)) (tree_of input.now)
+        ∷ found (catalog_of schema.now (K.definitions kernels.now)) (tree_of other.now) ∷ [])) }
     ensures refused { IsErr result }
 {
-    check_found(alloc, schema, kernels, input)?;
+    drop(check_found(alloc, schema, kernels, input)?);
     refuse(alloc, schema, kernels, other)
 }
 
@@ -262,10 +301,13 @@ fn refuse_three<K: Kernels>(
     other: &Expr,
     last: &Expr,
 ) -> Result<Found, PlanError>
-    ensures answer { AnswersOrMemory seen result (refused_over (found (catalog_of schema.now (K.definitions kernels.now)) (tree_of input.now) ∷ found (catalog_of schema.now (K.definitions kernels.now)) (tree_of other.now) ∷ found (catalog_of schema.now (K.definitions kernels.now)) (tree_of last.now) ∷ [])) }
+    ensures answer { AnswersOrMemory seen result
+        (refused_over (found (catalog_of schema.now (K.definitions kernels.now)) (tree_of input.now)
+        ∷ found (catalog_of schema.now (K.definitions kernels.now)) (tree_of other.now)
+        ∷ found (catalog_of schema.now (K.definitions kernels.now)) (tree_of last.now) ∷ [])) }
     ensures refused { IsErr result }
 {
-    check_found(alloc, schema, kernels, input)?;
+    drop(check_found(alloc, schema, kernels, input)?);
     refuse_two(alloc, schema, kernels, other, last)
 }
 
@@ -277,7 +319,8 @@ fn refuse_agg<K: Kernels>(
     kernels: &K,
     agg: &AggExpr,
 ) -> Result<Found, PlanError>
-    ensures answer { AnswersOrMemory seen result (found (catalog_of schema.now (K.definitions kernels.now)) (tree_of (Expr.Agg agg.now))) }
+    ensures answer { AnswersOrMemory seen result
+        (found (catalog_of schema.now (K.definitions kernels.now)) (tree_of (Expr.Agg agg.now))) }
     ensures refused { IsErr result }
 {
     match agg {
@@ -309,7 +352,9 @@ fn refuse_all<K: Kernels>(
     kernels: &K,
     input: &[Expr],
 ) -> Result<Found, PlanError>
-    ensures answer { AnswersOrMemory seen result (then_ (found_all (catalog_of schema.now (K.definitions kernels.now)) (map tree_of input.now)) (λ _. Err PlanError.InvalidOperation)) }
+    ensures answer { AnswersOrMemory seen result
+        (then_ (found_all (catalog_of schema.now (K.definitions kernels.now)) (map tree_of input.now))
+        (λ _. Err PlanError.InvalidOperation)) }
     ensures refused { IsErr result }
 {
     check_inputs(alloc, schema, kernels, input)?;
@@ -324,7 +369,8 @@ fn check_inputs<K: Kernels>(
     kernels: &K,
     exprs: &[Expr],
 ) -> Result<Vec<Found>, PlanError>
-    ensures answer { AnswersOrMemory (λ l. map seen l.items) result (found_all (catalog_of schema.now (K.definitions kernels.now)) (map tree_of exprs.now)) }
+    ensures answer { AnswersOrMemory (λ l. map seen l.items) result
+        (found_all (catalog_of schema.now (K.definitions kernels.now)) (map tree_of exprs.now)) }
     ensures kept { IfOk result (λ l. map options_in l.items ≡ map options_of exprs.now) }
 {
     let mut inputs = Vec::new(alloc);
@@ -342,11 +388,12 @@ fn check_whole<K: Kernels>(
     kernels: &K,
     expr: &Expr,
 ) -> Result<Checked, PlanError>
-    ensures answer { AnswersOrMemory typed_of result (check.check (catalog_of schema.now (K.definitions kernels.now)) (tree_of expr.now)) }
+    ensures answer { AnswersOrMemory typed_of result
+        (check.check (catalog_of schema.now (K.definitions kernels.now)) (tree_of expr.now)) }
     ensures kept { IfOk result (λ c. options_of c.tree ≡ options_of expr.now) }
 {
     let found = check_found(alloc, schema, kernels, expr)?;
-    rules::settled(alloc, found)
+    px_coercion::with_default_type(alloc, found)
 }
 
 // The checked tree, where it has what the context asks for.
@@ -356,13 +403,13 @@ fn asked(context: Context, checked: Checked) -> Result<Checked, PlanError>
 {
     match context {
         Context::Select => Ok(checked),
-        Context::Filter => {
-            if is_boolean(checked.kind()) {
-                Ok(checked)
-            } else {
+        Context::Filter => match checked.value_type() {
+            ValueType::Boolean => Ok(checked),
+            _ => {
+                drop(checked);
                 Err(PlanError::InvalidOperation)
             }
-        }
+        },
     }
 }
 
@@ -374,7 +421,9 @@ fn check_asked<K: Kernels>(
     context: Context,
     expr: &Expr,
 ) -> Result<Checked, PlanError>
-    ensures answer { AnswersOrMemory typed_of result (then_ (check.check (catalog_of schema.now (K.definitions kernels.now)) (tree_of expr.now)) (as_asked context)) }
+    ensures answer { AnswersOrMemory typed_of result
+        (then_ (check.check (catalog_of schema.now (K.definitions kernels.now)) (tree_of expr.now))
+        (as_asked context)) }
     ensures kept { IfOk result (λ c. options_of c.tree ≡ options_of expr.now) }
 {
     let checked = check_whole(alloc, schema, kernels, expr)?;
@@ -389,7 +438,9 @@ fn check_each<K: Kernels>(
     context: Context,
     exprs: &[Expr],
 ) -> Result<CheckedList, PlanError>
-    ensures answer { AnswersOrMemory (λ l. map typed_of l.entries) result (gathered (map (λ t. then_ (check.check (catalog_of schema.now (K.definitions kernels.now)) t) (as_asked context)) (map tree_of exprs.now))) }
+    ensures answer { AnswersOrMemory (λ l. map typed_of l.entries) result (all_results (map
+        (λ t. then_ (check.check (catalog_of schema.now (K.definitions kernels.now)) t) (as_asked context))
+        (map tree_of exprs.now))) }
     ensures kept { IfOk result (λ l. map (λ c. options_of c.tree) l.entries ≡ map options_of exprs.now) }
 {
     let mut list = List::new(alloc);
@@ -406,7 +457,7 @@ fn fields_of(alloc: Global, checked: &[Checked]) -> Result<FieldList, PlanError>
     let mut fields = List::new(alloc);
     for one in checked {
         let name = one.name().try_clone(alloc)?;
-        fields.try_push(Field::new(name, one.kind().dtype()))?;
+        fields.try_push(Field::new(name, one.value_type().dtype()))?;
     }
     Ok(fields)
 }
@@ -423,7 +474,8 @@ fn distinct_names(alloc: Global, checked: &[Checked]) -> Result<(), PlanError>
 
 // The list, if in a select context its names are distinct.
 fn named(alloc: Global, context: Context, list: CheckedList) -> Result<CheckedList, PlanError>
-    ensures answer { AnswersOrMemory (λ l. map typed_of l.entries) result (with_names context (map typed_of list.entries)) }
+    ensures answer { AnswersOrMemory (λ l. map typed_of l.entries) result
+        (with_names context (map typed_of list.entries)) }
     ensures kept { IfOk result (λ l. l ≡ list) }
 {
     match context {
@@ -442,7 +494,8 @@ pub fn check_expr(
     kernels: &KernelList,
     expr: &Expr,
 ) -> Result<Checked, PlanError>
-    ensures answer { AnswersOrMemory typed_of result (check.check (catalog_of schema.now (⟦<KernelList as Kernels>⟧.definitions kernels.now)) (tree_of expr.now)) }
+    ensures answer { AnswersOrMemory typed_of result
+        (check.check (catalog_of schema.now (⟦<KernelList as Kernels>⟧.definitions kernels.now)) (tree_of expr.now)) }
     ensures kept { IfOk result (λ c. options_of c.tree ≡ options_of expr.now) }
 {
     check_whole(alloc, schema, kernels, expr)
@@ -456,7 +509,9 @@ pub fn check_list(
     plan: &PlanContext<'_>,
     exprs: &[Expr],
 ) -> Result<CheckedList, PlanError>
-    ensures answer { AnswersOrMemory (λ l. map typed_of l.entries) result (check.check_list (⟦<PlanContext<'static> as Plan>⟧.catalog plan.now) plan.now.context (map tree_of exprs.now)) }
+    ensures answer { AnswersOrMemory (λ l. map typed_of l.entries) result
+        (check.check_list (⟦<PlanContext<'static> as Plan>⟧.catalog plan.now) plan.now.context
+        (map tree_of exprs.now)) }
     ensures kept { IfOk result (λ l. map (λ c. options_of c.tree) l.entries ≡ map options_of exprs.now) }
 {
     let list = check_each(alloc, plan.schema, plan.kernels, plan.context, exprs)?;

@@ -3,16 +3,9 @@
 #![tactic(auto)]
 
 mod check;
-mod checked;
-mod found;
-mod kinds;
-mod literals;
-mod name;
-mod rules;
 #[cfg(test)]
 mod tests;
-mod unite;
 
 pub use check::{check_expr, check_list};
-pub use checked::{Checked, CheckedList};
+pub use px_coercion::{Checked, CheckedList};
 pub use px_expr::{Context, KernelList, PlanContext};

@@ -1,19 +1,9 @@
 use crate::{Checked, CheckedList, KernelList, PlanContext, check_expr, check_list};
 use px_expr::{Context, Expr};
-use px_texts::{read_expr, read_text, write_text};
-use px_types::{DataType, Field, FieldList, List, PlanError, Schema, SmallStr, ValueType};
+use px_texts::{add_field, fields_of, read_expr, read_text, write_text};
+use px_types::{DataType, PlanError, Schema, ValueType};
 use std::alloc::Global;
 use std::test::Fail;
-
-fn add(
-    alloc: Global,
-    fields: &mut FieldList,
-    name: &str,
-    dtype: DataType,
-) -> Result<(), PlanError> {
-    let name = SmallStr::new(alloc, name)?;
-    fields.try_push(Field::new(name, dtype))
-}
 
 const FIELDS: &[(&str, ValueType)] = &[
     ("a", ValueType::Int64),
@@ -26,17 +16,9 @@ const FIELDS: &[(&str, ValueType)] = &[
     ("s", ValueType::String),
 ];
 
-fn fields(alloc: Global) -> Result<FieldList, PlanError> {
-    let mut fields = List::new(alloc);
-    for field in FIELDS {
-        add(alloc, &mut fields, field.0, field.1.dtype())?;
-    }
-    Ok(fields)
-}
-
 fn schema(alloc: Global) -> Result<Schema, PlanError> {
-    let mut fields = fields(alloc)?;
-    add(alloc, &mut fields, "f", DataType::Float64)?;
+    let mut fields = fields_of(alloc, FIELDS)?;
+    add_field(alloc, &mut fields, "f", DataType::Float64)?;
     Schema::from_fields(alloc, fields.as_slice())
 }
 
@@ -44,15 +26,19 @@ fn schema(alloc: Global) -> Result<Schema, PlanError> {
 fn checked_text(alloc: Global, checked: &Checked) -> Result<String, PlanError> {
     let mut text = String::new(alloc);
     write_text(alloc, &mut text, checked.tree())?;
-    let kind = checked.kind();
+    let value_type = checked.value_type();
     let name = checked.name().as_str();
-    Ok(format!(in alloc; "{text}, {kind:?}, {name}")?)
+    Ok(format!(in alloc; "{text}, {value_type:?}, {name}")?)
 }
 
 fn answer(alloc: Global, schema: &Schema, expr: &Expr) -> Result<String, PlanError> {
     let kernels = KernelList::new(alloc);
     match check_expr(alloc, schema, &kernels, expr) {
-        Ok(checked) => checked_text(alloc, &checked),
+        Ok(checked) => {
+            let text = checked_text(alloc, &checked);
+            drop(checked);
+            text
+        }
         Err(e) => Ok(format!(in alloc; "{e}")?),
     }
 }
@@ -60,7 +46,9 @@ fn answer(alloc: Global, schema: &Schema, expr: &Expr) -> Result<String, PlanErr
 // What the check answers to a text.
 fn answer_to(alloc: Global, schema: &Schema, text: &str) -> Result<String, PlanError> {
     let expr = read_expr(alloc, text)?;
-    answer(alloc, schema, &expr)
+    let text = answer(alloc, schema, &expr);
+    drop(expr);
+    text
 }
 
 // The first answer that is not the one beside its text, or nothing.
@@ -81,6 +69,8 @@ const LEAVES: &[(&str, &str)] = &[
     ("n", "n, Null, n"),
     ("null", "null, Null, literal"),
     ("true", "true, Boolean, literal"),
+    ("s:Boolean(false,true)", "s:Boolean(false,true), Boolean, s"),
+    ("n:Int8(1,2)", "n:Int8(1,2), Int8, n"),
     ("2147483647", "2147483647:Int32, Int32, literal"),
     ("2147483648", "2147483648:Int64, Int64, literal"),
     ("-2147483649", "-2147483649:Int64, Int64, literal"),

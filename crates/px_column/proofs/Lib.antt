@@ -1,6 +1,4 @@
 pub mod Framed
 pub mod KernelRows
-pub mod LawLemmas
-pub mod Joining
-pub mod FusedRows
 pub mod SameRows
+mod Sample

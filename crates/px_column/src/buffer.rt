@@ -3,35 +3,36 @@ ghost use Rattle.std.specs.Prelude.{◌≡◌, ◌⊎◌, ◌<◌, ◌^◌, ◌�
 ghost use Rattle.std.specs.Simd.Lanes.{Each1};
 ghost use Rattle.px_base.specs.Answer.{GivesOrMemory};
 ghost use Rattle.px_types.specs.Integers.{IsInteger};
-ghost use Rattle.px_types.specs.Logic.{logic_row, inverse_row, IsLogic};
-ghost use Rattle.px_types.specs.Rows.{IsRowOf, IsBoolean, number_row, null_count, row_by_row};
-ghost use Rattle.px_column.specs.ColumnOf.{kind_of, rows_of, HoldsIntegers};
+ghost use Rattle.px_semantics.specs.Logic.{logic_row, inverse_row, null_row, IsLogic};
+ghost use Rattle.px_semantics.specs.Rows.{IsRowOf, IsBoolean, integer_row, null_count, elementwise};
+ghost use Rattle.px_column.specs.ColumnOf.{type_of, rows_of, HoldsIntegers};
 ghost use Rattle.px_column.specs.Values.{row_of, IsValueOf};
 
-use px_rows::{Bits, Numbers, Texts, Truths};
+use px_arrays::{Bitmap, BooleanArray, IntegerArray, StringArray};
 use px_types::{AnyValue, Operator, PlanError, ValueType};
 use std::alloc::{AllocError, Global};
 
-/// The rows of a column.
+/// The rows of a column, in the form that their type takes: fewer than 2^32, each null or a value
+/// of the type.
 #[derive(Drop)]
 pub enum Buffer {
     /// So many nulls.
     Null(u32),
-    Boolean(Truths),
-    Text(Texts),
-    Int8(Numbers<i8>),
-    Int16(Numbers<i16>),
-    Int32(Numbers<i32>),
-    Int64(Numbers<i64>),
-    UInt8(Numbers<u8>),
-    UInt16(Numbers<u16>),
-    UInt32(Numbers<u32>),
-    UInt64(Numbers<u64>),
+    Boolean(BooleanArray),
+    Text(StringArray),
+    Int8(IntegerArray<i8>),
+    Int16(IntegerArray<i16>),
+    Int32(IntegerArray<i32>),
+    Int64(IntegerArray<i64>),
+    UInt8(IntegerArray<u8>),
+    UInt16(IntegerArray<u16>),
+    UInt32(IntegerArray<u32>),
+    UInt64(IntegerArray<u64>),
 }
 
 macro_rules! numbers {
     ($variant:ident, $alloc:expr, $values:expr) => {
-        match Numbers::from_options($alloc, $values)? {
+        match IntegerArray::from_options($alloc, $values)? {
             Some(rows) => Ok(Some(Buffer::$variant(rows))),
             None => Ok(None),
         }
@@ -48,19 +49,21 @@ macro_rules! value {
 }
 
 impl Buffer {
-    /// The values as rows of a type. None where it is no integer type, or one of them is outside it.
+    /// These values as rows of a type, of which there are fewer than 2^32; None is a null. None is
+    /// answered where the type is no integer type, or one of them is outside it. The only error is
+    /// out of memory.
     pub fn from_integers(
         alloc: Global,
-        kind: ValueType,
+        value_type: ValueType,
         values: &[Option<i128>],
     ) -> Result<Option<Buffer>, PlanError>
         requires { length values.now < 2 ^ 32 }
-        ensures kind { IfOk result (λ o. IfSome o (λ b. kind_of b ≡ kind)) }
-        ensures rows { IfOk result (λ o. IfSome o (λ b. rows_of b ≡ map number_row values.now)) }
-        ensures inside { IfOk result (λ o. IsSome o ↔ HoldsIntegers (Some kind) values.now) }
+        ensures value_type { IfOk result (λ o. IfSome o (λ b. type_of b ≡ value_type)) }
+        ensures rows { IfOk result (λ o. IfSome o (λ b. rows_of b ≡ map integer_row values.now)) }
+        ensures inside { IfOk result (λ o. IsSome o ↔ HoldsIntegers (Some value_type) values.now) }
         ensures err { IfErr result (λ e. e ≡ PlanError.OutOfMemory) }
     {
-        match kind {
+        match value_type {
             ValueType::Int8 => numbers!(Int8, alloc, values),
             ValueType::Int16 => numbers!(Int16, alloc, values),
             ValueType::Int32 => numbers!(Int32, alloc, values),
@@ -74,8 +77,8 @@ impl Buffer {
     }
 
     /// The type of the rows.
-    pub fn kind(&self) -> ValueType
-        ensures { result ≡ kind_of self.now }
+    pub fn value_type(&self) -> ValueType
+        ensures { result ≡ type_of self.now }
     {
         match self {
             Buffer::Null(_) => ValueType::Null,
@@ -95,7 +98,7 @@ impl Buffer {
     /// The number of rows. Each row is null or a value of the type.
     pub fn len(&self) -> u32
         ensures rows { result ≡ length (rows_of self.now) }
-        ensures typed { Each1 (IsRowOf (kind_of self.now)) (rows_of self.now) }
+        ensures typed { Each1 (IsRowOf (type_of self.now)) (rows_of self.now) }
     {
         match self {
             Buffer::Null(len) => *len,
@@ -112,11 +115,11 @@ impl Buffer {
         }
     }
 
-    /// Row `i`.
+    /// Row `i`, which is below the length.
     pub fn get(&self, i: usize) -> AnyValue<'_>
         requires { i < length (rows_of self.now) }
         ensures row { row_of result ≡ get_or (rows_of self.now) i None }
-        ensures kind { IsValueOf (kind_of self.now) result }
+        ensures value_type { IsValueOf (type_of self.now) result }
     {
         match self {
             Buffer::Null(_) => AnyValue::Null,
@@ -133,45 +136,60 @@ impl Buffer {
         }
     }
 
+    /// Which rows are not null, one bit for each row. None of rows of type Null, which are all null.
+    pub fn validity(&self) -> Option<&Bitmap>
+        ensures bits { IfSome result (λ b. b.now ≡ map is_some (rows_of self.now)) }
+        ensures nulls { result ≡ None → rows_of self.now ≡ replicate (length (rows_of self.now)) None }
+    {
+        match self {
+            Buffer::Null(_) => None,
+            Buffer::Boolean(rows) => Some(rows.valid()),
+            Buffer::Text(rows) => Some(rows.valid()),
+            Buffer::Int8(rows) => Some(rows.valid()),
+            Buffer::Int16(rows) => Some(rows.valid()),
+            Buffer::Int32(rows) => Some(rows.valid()),
+            Buffer::Int64(rows) => Some(rows.valid()),
+            Buffer::UInt8(rows) => Some(rows.valid()),
+            Buffer::UInt16(rows) => Some(rows.valid()),
+            Buffer::UInt32(rows) => Some(rows.valid()),
+            Buffer::UInt64(rows) => Some(rows.valid()),
+        }
+    }
+
     /// The number of nulls.
     pub fn null_count(&self) -> u32
         ensures { result ≡ null_count (rows_of self.now) }
     {
-        match self {
-            Buffer::Null(len) => *len,
-            Buffer::Boolean(rows) => rows.valid().zeros() as u32,
-            Buffer::Text(rows) => rows.valid().zeros() as u32,
-            Buffer::Int8(rows) => rows.valid().zeros() as u32,
-            Buffer::Int16(rows) => rows.valid().zeros() as u32,
-            Buffer::Int32(rows) => rows.valid().zeros() as u32,
-            Buffer::Int64(rows) => rows.valid().zeros() as u32,
-            Buffer::UInt8(rows) => rows.valid().zeros() as u32,
-            Buffer::UInt16(rows) => rows.valid().zeros() as u32,
-            Buffer::UInt32(rows) => rows.valid().zeros() as u32,
-            Buffer::UInt64(rows) => rows.valid().zeros() as u32,
+        match self.validity() {
+            Some(valid) => valid.zeros() as u32,
+            None => self.len(),
         }
     }
 
     /// Which rows are not null.
-    pub fn valid(&self, alloc: Global) -> Result<Bits, AllocError>
+    pub fn valid(&self, alloc: Global) -> Result<Bitmap, AllocError>
         ensures { IfOk result (λ b. b ≡ map is_some (rows_of self.now)) }
     {
-        match self {
-            Buffer::Null(len) => Bits::filled(alloc, *len as usize, false),
-            Buffer::Boolean(rows) => rows.valid().try_clone(alloc),
-            Buffer::Text(rows) => rows.valid().try_clone(alloc),
-            Buffer::Int8(rows) => rows.valid().try_clone(alloc),
-            Buffer::Int16(rows) => rows.valid().try_clone(alloc),
-            Buffer::Int32(rows) => rows.valid().try_clone(alloc),
-            Buffer::Int64(rows) => rows.valid().try_clone(alloc),
-            Buffer::UInt8(rows) => rows.valid().try_clone(alloc),
-            Buffer::UInt16(rows) => rows.valid().try_clone(alloc),
-            Buffer::UInt32(rows) => rows.valid().try_clone(alloc),
-            Buffer::UInt64(rows) => rows.valid().try_clone(alloc),
+        match self.validity() {
+            Some(valid) => valid.try_clone(alloc),
+            None => Bitmap::filled(alloc, self.len() as usize, false),
         }
     }
 
-    /// The same rows.
+    /// Row by row whether it is null, which is never null itself.
+    pub fn null_flags(&self, alloc: Global) -> Result<BooleanArray, AllocError>
+        ensures { IfOk result (λ r. r ≡ map null_row (rows_of self.now)) }
+    {
+        match self.validity() {
+            Some(valid) => BooleanArray::certain_not(alloc, valid),
+            None => BooleanArray::non_null(
+                alloc,
+                Bitmap::filled(alloc, self.len() as usize, true)?,
+            ),
+        }
+    }
+
+    /// The same rows. The only error is out of memory.
     pub fn try_clone(&self, alloc: Global) -> Result<Buffer, PlanError>
         ensures { GivesOrMemory result self.now }
     {
@@ -190,10 +208,10 @@ impl Buffer {
         }
     }
 
-    /// The one row `len` times.
+    /// The one row `len` times. The only error is out of memory.
     pub fn repeated(&self, alloc: Global, len: u32) -> Result<Buffer, PlanError>
         requires { length (rows_of self.now) ≡ 1 }
-        ensures kind { IfOk result (λ b. kind_of b ≡ kind_of self.now) }
+        ensures value_type { IfOk result (λ b. type_of b ≡ type_of self.now) }
         ensures rows { IfOk result (λ b. rows_of b ≡ replicate len (get_or (rows_of self.now) 0 None)) }
         ensures err { IfErr result (λ e. e ≡ PlanError.OutOfMemory) }
     {
@@ -213,14 +231,19 @@ impl Buffer {
         }
     }
 
-    /// Row by row a logical operator, And, Or or Xor, on truth values, or bit by bit on integers.
+    /// Row by row `And`, `Or` or `Xor`, in Kleene logic of two Boolean buffers, or bit by bit of
+    /// two of one integer type. One row goes with each row of the other side. `ShapeMismatch` where
+    /// the lengths do not broadcast. Else the only error is out of memory.
     pub fn logic(&self, alloc: Global, op: Operator, other: &Buffer) -> Result<Buffer, PlanError>
         requires logic { IsLogic op }
-        requires operand { IsBoolean (kind_of self.now) ⊎ IsInteger (kind_of self.now) }
-        requires same { kind_of self.now ≡ kind_of other.now }
-        ensures kind { IfOk result (λ b. kind_of b ≡ kind_of self.now) }
-        ensures rows { IfOk result (λ b. Some (rows_of b) ≡ row_by_row (logic_row op (kind_of self.now)) (rows_of self.now) (rows_of other.now)) }
-        ensures err { IfErr result (λ e. (e ≡ PlanError.OutOfMemory) ⊎ ((e ≡ PlanError.ShapeMismatch) × (row_by_row (logic_row op (kind_of self.now)) (rows_of self.now) (rows_of other.now) ≡ None))) }
+        requires operand { IsBoolean (type_of self.now) ⊎ IsInteger (type_of self.now) }
+        requires same { type_of self.now ≡ type_of other.now }
+        ensures value_type { IfOk result (λ b. type_of b ≡ type_of self.now) }
+        ensures rows { IfOk result (λ b. Some (rows_of b)
+            ≡ elementwise (logic_row op (type_of self.now)) (rows_of self.now) (rows_of other.now)) }
+        ensures err { IfErr result (λ e. (e ≡ PlanError.OutOfMemory)
+            ⊎ ((e ≡ PlanError.ShapeMismatch)
+            × (elementwise (logic_row op (type_of self.now)) (rows_of self.now) (rows_of other.now) ≡ None))) }
     {
         match (self, other) {
             (Buffer::Boolean(a), Buffer::Boolean(b)) => Ok(Buffer::Boolean(a.logic(alloc, op, b)?)),
@@ -236,11 +259,11 @@ impl Buffer {
         }
     }
 
-    /// Row by row the opposite truth value, or the integer with every bit turned.
+    /// Row by row the negation of a Boolean, or the complement of an integer, null kept.
     pub fn inverse(&self, alloc: Global) -> Result<Buffer, AllocError>
-        requires { IsBoolean (kind_of self.now) ⊎ IsInteger (kind_of self.now) }
-        ensures kind { IfOk result (λ b. kind_of b ≡ kind_of self.now) }
-        ensures rows { IfOk result (λ b. rows_of b ≡ map (inverse_row (kind_of self.now)) (rows_of self.now)) }
+        requires { IsBoolean (type_of self.now) ⊎ IsInteger (type_of self.now) }
+        ensures value_type { IfOk result (λ b. type_of b ≡ type_of self.now) }
+        ensures rows { IfOk result (λ b. rows_of b ≡ map (inverse_row (type_of self.now)) (rows_of self.now)) }
     {
         match self {
             Buffer::Boolean(rows) => Ok(Buffer::Boolean(rows.not(alloc)?)),

@@ -2,14 +2,14 @@
 ghost use Rattle.std.specs.Prelude.{◌≡◌, ◌⊎◌, length, map, true, None, Err, IfOk, IfErr};
 ghost use Rattle.std.specs.Bool.{OnTrue};
 ghost use Rattle.std.specs.Option.{option_copied};
-ghost use Rattle.px_base.specs.Answer.{GivesOrMemory, AnswersOrMemory};
+ghost use Rattle.px_base.specs.Answer.{AnswersOrMemory};
 ghost use Rattle.px_types.specs.Schemas.{first_repeated};
-ghost use Rattle.px_types.specs.Columns.{is_column, are_columns};
-ghost use Rattle.px_types.specs.Frames.{IsFrame, frame_of, column_named, column_names, heights, are_equal, height_of};
+ghost use Rattle.px_semantics.specs.Columns.{is_column, are_columns};
+ghost use Rattle.px_semantics.specs.Frames.{IsFrame, frame_of, column_named, column_names, heights, are_equal, height_of};
 ghost use Rattle.px_column.specs.FrameOf.{field_of};
 
 use crate::column::Column;
-use px_types::{Field, FieldList, List, PlanError, Schema};
+use px_types::{Field, List, PlanError, Schema};
 use std::alloc::Global;
 use std::marker::Model;
 
@@ -25,9 +25,9 @@ pub struct Frame {
 
 impl Model for Frame {
     ghost use Rattle.std.specs.Prelude.{◌≡◌, List, map, true, Ok};
-    ghost use Rattle.px_types.specs.Columns.{are_columns};
-    ghost use Rattle.px_types.specs.Rows.{Contents};
-    ghost use Rattle.px_types.specs.Frames.{frame_of};
+    ghost use Rattle.px_semantics.specs.Columns.{are_columns};
+    ghost use Rattle.px_semantics.specs.Rows.{Contents};
+    ghost use Rattle.px_semantics.specs.Frames.{frame_of};
     ghost use Rattle.px_column.specs.FrameOf.{field_of};
 
     ghost Value = { List Contents };
@@ -38,8 +38,9 @@ impl Model for Frame {
 }
 
 impl Frame {
-    /// The columns as a frame. It refuses the first name that is equal to an earlier one, and else
-    /// columns of which two differ in height.
+    /// The columns as a frame. `Duplicate`, with the first name that is equal to an earlier one,
+    /// where there is such a name; else `ShapeMismatch` where two differ in height. Else the only
+    /// error is out of memory.
     pub fn new(alloc: Global, columns: ColumnList) -> Result<Frame, PlanError>
         ensures { AnswersOrMemory (λ frame. frame) result (frame_of columns.entries) }
     {
@@ -78,42 +79,26 @@ impl Frame {
         }
     }
 
-    /// The column of this name.
+    /// The column of this name, and None where there is no such column.
     pub fn column(&self, name: &str) -> Option<&Column>
         ensures { option_copied result ≡ column_named self.now name.now }
     {
-        column_in(self.columns.as_slice(), name)
+        let place = self.schema.place(name)?;
+        self.columns.get(place)
     }
-}
-
-fn column_in<'a>(columns: &'a [Column], name: &str) -> Option<&'a Column>
-    ensures { option_copied result ≡ column_named columns.now name.now }
-{
-    for column in columns {
-        if column.name().as_str() == name {
-            return Some(column);
-        }
-    }
-    None
 }
 
 fn schema_of(alloc: Global, columns: &[Column]) -> Result<Schema, PlanError>
-    ensures ok { IfOk result (λ schema. (schema ≡ map field_of columns.now) × (first_repeated (column_names columns.now) ≡ None)) }
+    ensures ok { IfOk result (λ schema. (schema ≡ map field_of columns.now)
+        × (first_repeated (column_names columns.now) ≡ None)) }
     ensures err { IfErr result (λ e. (e ≡ PlanError.OutOfMemory) ⊎ (frame_of columns.now ≡ Err e)) }
 {
-    let fields = fields_of(alloc, columns)?;
-    Schema::from_fields(alloc, fields.as_slice())
-}
-
-fn fields_of(alloc: Global, columns: &[Column]) -> Result<FieldList, PlanError>
-    ensures { GivesOrMemory result (record { entries = map field_of columns.now }) }
-{
-    let mut fields = List::new(alloc);
+    let mut schema = Schema::new(alloc);
     for column in columns {
         let name = column.name().try_clone(alloc)?;
-        fields.try_push(Field::new(name, column.kind().dtype()))?;
+        schema.push(Field::new(name, column.value_type().dtype()))?;
     }
-    Ok(fields)
+    Ok(schema)
 }
 
 // The number of rows of a column, which is one by its own invariant.

@@ -1,18 +1,22 @@
 //! Equality and hashing of columns. Equality is exact: name, type and rows are equal. The hash reads
-//! the type, the length and the number of nulls.
+//! the type, the length, the number of nulls and a few rows.
 ghost use Rattle.std.specs.Prelude.{◌≡◌, IsTrue, ◌↔◌, option_map};
 ghost use Rattle.std.specs.Option.{option_copied};
-ghost use Rattle.px_types.specs.Rows.{bool_row, number_row, text_row};
-ghost use Rattle.px_column.specs.ColumnOf.{kind_of, rows_of};
+ghost use Rattle.px_semantics.specs.Rows.{boolean_row, integer_row, string_row};
+ghost use Rattle.std.specs.List.{fold, flat_map};
+ghost use Rattle.px_column.specs.ColumnOf.{type_of, rows_of};
+ghost use Rattle.px_column.specs.HashInput.{row_input, sample};
+ghost use Rattle.px_column.specs.Values.{row_of};
 
 use crate::buffer::Buffer;
 use crate::column::Column;
-use px_integers::Number;
-use px_rows::{Numbers, Texts, Truths};
+use px_arrays::{BooleanArray, IntegerArray, StringArray};
+use px_integers::Integer;
+use px_types::AnyValue;
 use std::hash::{Hash, Hasher};
 
-fn same_number<T: Number>(a: Option<T>, b: Option<T>) -> bool
-    ensures { IsTrue result ↔ (number_row (option_map T.number a) ≡ number_row (option_map T.number b)) }
+fn same_number<T: Integer>(a: Option<T>, b: Option<T>) -> bool
+    ensures { IsTrue result ↔ (integer_row (option_map T.integer a) ≡ integer_row (option_map T.integer b)) }
 {
     match (a, b) {
         (Some(a), Some(b)) => a.is_same(b),
@@ -22,7 +26,7 @@ fn same_number<T: Number>(a: Option<T>, b: Option<T>) -> bool
 }
 
 fn same_truth(a: Option<bool>, b: Option<bool>) -> bool
-    ensures { IsTrue result ↔ (bool_row a ≡ bool_row b) }
+    ensures { IsTrue result ↔ (boolean_row a ≡ boolean_row b) }
 {
     match (a, b) {
         (Some(a), Some(b)) => a == b,
@@ -32,7 +36,7 @@ fn same_truth(a: Option<bool>, b: Option<bool>) -> bool
 }
 
 fn same_text(a: Option<&str>, b: Option<&str>) -> bool
-    ensures { IsTrue result ↔ (text_row (option_copied a.entry) ≡ text_row (option_copied b.entry)) }
+    ensures { IsTrue result ↔ (string_row (option_copied a.entry) ≡ string_row (option_copied b.entry)) }
 {
     match (a, b) {
         (Some(a), Some(b)) => a == b,
@@ -41,7 +45,7 @@ fn same_text(a: Option<&str>, b: Option<&str>) -> bool
     }
 }
 
-fn same_numbers<T: Number>(a: &Numbers<T>, b: &Numbers<T>) -> bool
+fn same_numbers<T: Integer>(a: &IntegerArray<T>, b: &IntegerArray<T>) -> bool
     ensures { IsTrue result ↔ (a.now ≡ b.now) }
 {
     let len = a.len();
@@ -56,7 +60,7 @@ fn same_numbers<T: Number>(a: &Numbers<T>, b: &Numbers<T>) -> bool
     true
 }
 
-fn same_truths(a: &Truths, b: &Truths) -> bool
+fn same_truths(a: &BooleanArray, b: &BooleanArray) -> bool
     ensures { IsTrue result ↔ (a.now ≡ b.now) }
 {
     let len = a.len();
@@ -71,7 +75,7 @@ fn same_truths(a: &Truths, b: &Truths) -> bool
     true
 }
 
-fn same_texts(a: &Texts, b: &Texts) -> bool
+fn same_texts(a: &StringArray, b: &StringArray) -> bool
     ensures { IsTrue result ↔ (a.now ≡ b.now) }
 {
     let len = a.len();
@@ -88,7 +92,7 @@ fn same_texts(a: &Texts, b: &Texts) -> bool
 
 /// Whether the rows of two buffers of one type are equal.
 fn same_rows(a: &Buffer, b: &Buffer) -> bool
-    requires { kind_of a.now ≡ kind_of b.now }
+    requires { type_of a.now ≡ type_of b.now }
     ensures { IsTrue result ↔ (rows_of a.now ≡ rows_of b.now) }
 {
     match (a, b) {
@@ -110,10 +114,42 @@ fn same_rows(a: &Buffer, b: &Buffer) -> bool
 fn same_column(a: &Column, b: &Column) -> bool
     ensures { IsTrue result ↔ (a.now ≡ b.now) }
 {
-    if a.kind() != b.kind() {
+    if a.value_type() != b.value_type() {
         return false;
     }
     *a.name() == *b.name() && same_rows(a.buffer(), b.buffer())
+}
+
+/// Whether a value is there, and which one.
+fn hash_value<H: Hasher>(value: AnyValue<'_>, state: &mut H)
+    ensures { state.new ≡ fold H.write state.old (row_input (row_of value.entry)) }
+{
+    match value {
+        AnyValue::Boolean(value) => Some(value).hash(state),
+        AnyValue::String(text) => Some(text).hash(state),
+        AnyValue::Int8(value) => Some(i128::from(value)).hash(state),
+        AnyValue::Int16(value) => Some(i128::from(value)).hash(state),
+        AnyValue::Int32(value) => Some(i128::from(value)).hash(state),
+        AnyValue::Int64(value) => Some(i128::from(value)).hash(state),
+        AnyValue::UInt8(value) => Some(i128::from(value)).hash(state),
+        AnyValue::UInt16(value) => Some(i128::from(value)).hash(state),
+        AnyValue::UInt32(value) => Some(i128::from(value)).hash(state),
+        AnyValue::UInt64(value) => Some(i128::from(value)).hash(state),
+        _ => None::<bool>.hash(state),
+    }
+}
+
+/// At most so many rows does the hash read.
+const SAMPLE: u64 = 8;
+
+fn hash_sample<H: Hasher>(column: &Column, state: &mut H)
+    ensures { state.new ≡ fold H.write state.old (flat_map row_input (sample column.now.values.rows)) }
+{
+    let len = u64::from(column.len());
+    let count = len.min(SAMPLE);
+    for i in 0..count {
+        hash_value(column.get((i * len / count) as u32), state);
+    }
 }
 
 impl PartialEq for Column {
@@ -154,5 +190,6 @@ impl Hash for Column {
         self.dtype().hash(state);
         self.len().hash(state);
         self.null_count().hash(state);
+        hash_sample(self, state);
     }
 }

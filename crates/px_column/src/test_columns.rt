@@ -4,7 +4,7 @@ use crate::column::Column;
 use px_types::{AnyValue, PlanError, SmallStr, ValueType};
 use std::alloc::Global;
 
-/// The type of a column and its rows. A truth value is 1 or 0, and a text stands under its number.
+/// The type of a column and its rows. A Boolean is 1 or 0, and a string stands under its number.
 pub type Rows<'a> = (ValueType, &'a [Option<i128>]);
 
 /// The rows of an answer, or the name of an error.
@@ -50,15 +50,15 @@ fn texts(alloc: Global, name: &str, values: &[Option<i128>]) -> Result<Column, P
 }
 
 fn made(alloc: Global, name: &str, rows: Rows) -> Result<Column, PlanError> {
-    let (kind, values) = rows;
-    match kind {
+    let (value_type, values) = rows;
+    match value_type {
         ValueType::Null => match u32::try_from(values.len()) {
             Ok(len) => Column::new_null(alloc, name, len),
             Err(_) => Err(PlanError::TooLong),
         },
         ValueType::Boolean => bools(alloc, name, values),
         ValueType::String => texts(alloc, name, values),
-        _ => Column::new_int(alloc, name, kind.dtype(), values),
+        _ => Column::new_int(alloc, name, value_type.dtype(), values),
     }
 }
 
@@ -136,28 +136,28 @@ fn are_words(words: &[u64], values: &[Option<i128>], valid: bool) -> bool {
     words.len() == values.len().div_ceil(64)
 }
 
-/// Whether a Boolean column has the planes of the rows, and another column none.
-fn has_planes(column: &Column, rows: Rows) -> bool {
-    let (kind, values) = rows;
+/// Whether a Boolean column has the bitmaps of the rows, and another column none.
+fn has_bitmaps(column: &Column, rows: Rows) -> bool {
+    let (value_type, values) = rows;
     match (column.truth_words(), column.valid_words()) {
         (Some(truth), Some(valid)) => {
             are_words(truth, values, false) && are_words(valid, values, true)
         }
-        (None, None) => kind != ValueType::Boolean,
+        (None, None) => value_type != ValueType::Boolean,
         _ => false,
     }
 }
 
 /// Whether the column is named `a` and has the type and the rows.
 fn reads(column: &Column, rows: Rows) -> bool {
-    let (kind, values) = rows;
+    let (value_type, values) = rows;
     column.name().as_str() == "a"
-        && column.kind() == kind
-        && *column.dtype() == kind.dtype()
+        && column.value_type() == value_type
+        && *column.dtype() == value_type.dtype()
         && column.len() as usize == values.len()
         && column.null_count() == nulls(values)
         && begins(column, values)
-        && has_planes(column, rows)
+        && has_bitmaps(column, rows)
 }
 
 /// The name of an error.

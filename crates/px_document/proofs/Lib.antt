@@ -1,11 +1,2 @@
-pub mod Looks
-pub mod Forms
-pub mod Trees
-pub mod Rows
-pub mod RoundTrip
-pub mod NoFloats
-pub mod Exprs
 pub mod Bytes
-pub mod HasForms
-pub mod ReadForms
-pub mod ReadColumns
+pub mod NoFloats

@@ -1,24 +1,24 @@
--- Columns whose lengths join, and what a list of trees means.
+-- Columns whose lengths broadcast, and what a list of trees means.
 use Rattle.std.proofs.Common.{◌≡◌, ◌⊎◌, inl, inr, ◌+◌, ◌<◌, ◌≤◌, ℕ, zero, suc, List, [], ◌∷◌, ◌++◌, map, length, append_assoc, get_or, take, drop, drop-cons, Option, Some, None, Result, Ok, Err, refl, sym, ◌∙◌, ap, subst, add-one, arith}
 use Rattle.std.specs.Prelude.{option_and_then, option_map, slice_get, IsSome, IfOk, IfErr}
 use Rattle.std.proofs.lemmas.Option.{same_Some}
 use Rattle.px_base.specs.declared.error.PlanError.{PlanError}
 use Rattle.px_base.specs.declared.list.List.{List as Entries}
 use Rattle.px_base.specs.declared.error.PlanError.TheVariants.{OutOfMemory, ShapeMismatch}
-use Rattle.px_types.specs.Frames.{heights}
-use Rattle.px_types.specs.Rows.{TypedRows, Contents, joined}
-use Rattle.px_rows.proofs.Joins.{joined_same, joined_left, joined_right, joined_none}
-use Rattle.px_column.proofs.LawLemmas.{by_eq, joined_commutes, joined_associates}
+use Rattle.px_semantics.specs.Frames.{heights}
+use Rattle.px_semantics.specs.Rows.{TypedRows, Contents, broadcast_length}
+use Rattle.px_semantics.proofs.Joins.{broadcast_same, broadcast_left, broadcast_right, broadcast_none}
+use Rattle.px_semantics.proofs.LawLemmas.{by_eq, broadcast_commutes, broadcast_associates}
 use Rattle.px_expr.specs.declared.context.Context.{Context}
 use Rattle.px_expr.specs.declared.context.Context.TheVariants.{Select}
 use Rattle.px_expr.specs.Kernel.{Kernel}
 use Rattle.px_expr.specs.Tree.{Tree, Trees, none, more, trees}
 use Rattle.px_meaning.specs.Faults.{HasFault, SomeHasFault, of_first, of_rest, HasUnevenInputs, lengths}
-use Rattle.px_meaning.specs.Mean.{all_of, rows, named, mean, joined_all, shown, shown_name, lined_up, mean_list}
+use Rattle.px_meaning.specs.Mean.{all_of, rows, named, mean, broadcast_length_all, as_answer, answer_name, lined_up, mean_list}
 use Rattle.px_meaning.specs.Names.{name}
 use Rattle.px_meaning.specs.Schema.{Fits}
 use Rattle.px_meaning.proofs.Nothing.{fault-nothing}
-use Rattle.px_meaning.proofs.Typing.{HasKind-Has}
+use Rattle.px_meaning.proofs.Typing.{HasType-Has}
 use Rattle.px_expr.specs.Plan.{Catalog}
 use Rattle.px_arena.specs.declared.node.AExpr.{AExpr}
 use Rattle.px_arena.specs.declared.node.Node.{Node}
@@ -26,66 +26,66 @@ use Rattle.px_arena.specs.Denotes.{Denotes, DenoteAll, IsIn, first, later}
 use Rattle.px_arena.proofs.Places.{denote_all_one}
 use Rattle.px_rules.specs.Plan.{AreChecked, IsCheckedAt, AreCheckedAt, places}
 use Rattle.px_eval.specs.declared.answers.Answer.{Answer}
-use Rattle.px_eval.specs.Table.{held, values_of}
+use Rattle.px_eval.specs.Table.{rows_at, values_of}
 use Rattle.px_eval.specs.Answers.{column_of, FitsLength}
 use Rattle.px_eval.specs.Evaluated.{DenoteTrees, HasListFault}
 use Rattle.px_eval.specs.Fills.{HoldsRoots, RootHasFault}
 
 -- lengths one after the other, from the left
-joined_one : (m : ℕ) → joined m 1 ≡ Some m
-joined_one m = joined_commutes m 1 ∙ joined_left 1 m refl
+broadcast_one : (m : ℕ) → broadcast_length m 1 ≡ Some m
+broadcast_one m = broadcast_commutes m 1 ∙ broadcast_left 1 m refl
 
-joined_cons : (m : ℕ) (ns : List ℕ) → joined_all (m ∷ ns) ≡ option_and_then (joined m) (joined_all ns)
-joined_cons m [] = sym (joined_one m)
+joined_cons : (m : ℕ) (ns : List ℕ) → broadcast_length_all (m ∷ ns) ≡ option_and_then (broadcast_length m) (broadcast_length_all ns)
+joined_cons m [] = sym (broadcast_one m)
 joined_cons m (n ∷ ns) = refl
 
-pub joined_start : (ns : List ℕ) → option_and_then (joined 1) (joined_all ns) ≡ joined_all ns
-joined_start ns = go (joined_all ns)
+pub joined_start : (ns : List ℕ) → option_and_then (broadcast_length 1) (broadcast_length_all ns) ≡ broadcast_length_all ns
+joined_start ns = go (broadcast_length_all ns)
   where
-    go : (o : Option ℕ) → option_and_then (joined 1) o ≡ o
+    go : (o : Option ℕ) → option_and_then (broadcast_length 1) o ≡ o
     go None = refl
-    go (Some n) = joined_left 1 n refl
+    go (Some n) = broadcast_left 1 n refl
 
 pub joined_step :
-    (a m : ℕ) (ns : List ℕ) → option_and_then (joined a) (joined_all (m ∷ ns)) ≡ option_and_then (λ k. option_and_then (joined k) (joined_all ns)) (joined a m)
-joined_step a m ns = ap (option_and_then (joined a)) (joined_cons m ns) ∙ go (joined_all ns)
+    (a m : ℕ) (ns : List ℕ) → option_and_then (broadcast_length a) (broadcast_length_all (m ∷ ns)) ≡ option_and_then (λ k. option_and_then (broadcast_length k) (broadcast_length_all ns)) (broadcast_length a m)
+joined_step a m ns = ap (option_and_then (broadcast_length a)) (joined_cons m ns) ∙ go (broadcast_length_all ns)
   where
-    nothing : (o : Option ℕ) → option_and_then (λ (k : ℕ). option_and_then (joined k) None) o ≡ None
+    nothing : (o : Option ℕ) → option_and_then (λ (k : ℕ). option_and_then (broadcast_length k) None) o ≡ None
     nothing None = refl
     nothing (Some k) = refl
 
-    go : (o : Option ℕ) → option_and_then (joined a) (option_and_then (joined m) o) ≡ option_and_then (λ k. option_and_then (joined k) o) (joined a m)
-    go None = sym (nothing (joined a m))
-    go (Some n) = sym (joined_associates a m n)
+    go : (o : Option ℕ) → option_and_then (broadcast_length a) (option_and_then (broadcast_length m) o) ≡ option_and_then (λ k. option_and_then (broadcast_length k) o) (broadcast_length a m)
+    go None = sym (nothing (broadcast_length a m))
+    go (Some n) = sym (broadcast_associates a m n)
 
 -- one more answer joins the length so far
 pub joined_more :
-    (answers : List Answer) (i : ℕ) (a : Answer) (j k : ℕ) (total : Option ℕ) → i < length answers → a ≡ get_or answers i a → joined j (length (values_of a.rows).rows) ≡ Some k →
-    option_and_then (joined j) (joined_all (heights (map column_of (drop i answers)))) ≡ total → option_and_then (joined k) (joined_all (heights (map column_of (drop (i + 1) answers)))) ≡ total
+    (answers : List Answer) (i : ℕ) (a : Answer) (j k : ℕ) (total : Option ℕ) → i < length answers → a ≡ get_or answers i a → broadcast_length j (length (values_of a.rows).rows) ≡ Some k →
+    option_and_then (broadcast_length j) (broadcast_length_all (heights (map column_of (drop i answers)))) ≡ total → option_and_then (broadcast_length k) (broadcast_length_all (heights (map column_of (drop (i + 1) answers)))) ≡ total
 joined_more answers i a j k total h is joins e =
     let next : drop i answers ≡ a ∷ drop (i + 1) answers = drop-cons answers i a h ∙ (ap (λ (z : Answer). z ∷ drop (suc i) answers) (sym is) ∙ ap (λ (n : ℕ). a ∷ drop n answers) (sym (add-one i))) in
     let ns = heights (map column_of (drop (i + 1) answers)) in
     let s = joined_step j (length (values_of a.rows).rows) ns in
-    let t : option_and_then (joined j) (joined_all (heights (map column_of (a ∷ drop (i + 1) answers)))) ≡ total = subst (λ (z : List Answer). option_and_then (joined j) (joined_all (heights (map column_of z))) ≡ total) next e in
-    ap (option_and_then (λ m. option_and_then (joined m) (joined_all ns))) (sym joins) ∙ (sym s ∙ t)
+    let t : option_and_then (broadcast_length j) (broadcast_length_all (heights (map column_of (a ∷ drop (i + 1) answers)))) ≡ total = subst (λ (z : List Answer). option_and_then (broadcast_length j) (broadcast_length_all (heights (map column_of z))) ≡ total) next e in
+    ap (option_and_then (λ m. option_and_then (broadcast_length m) (broadcast_length_all ns))) (sym joins) ∙ (sym s ∙ t)
 
 -- a length that does not join
 pub joined_not :
-    (answers : List Answer) (i : ℕ) (a : Answer) (j : ℕ) (total : Option ℕ) → i < length answers → a ≡ get_or answers i a → joined j (length (values_of a.rows).rows) ≡ None →
-    option_and_then (joined j) (joined_all (heights (map column_of (drop i answers)))) ≡ total → total ≡ None
+    (answers : List Answer) (i : ℕ) (a : Answer) (j : ℕ) (total : Option ℕ) → i < length answers → a ≡ get_or answers i a → broadcast_length j (length (values_of a.rows).rows) ≡ None →
+    option_and_then (broadcast_length j) (broadcast_length_all (heights (map column_of (drop i answers)))) ≡ total → total ≡ None
 joined_not answers i a j total h is joins e =
     let next : drop i answers ≡ a ∷ drop (i + 1) answers = drop-cons answers i a h ∙ (ap (λ (z : Answer). z ∷ drop (suc i) answers) (sym is) ∙ ap (λ (n : ℕ). a ∷ drop n answers) (sym (add-one i))) in
     let ns = heights (map column_of (drop (i + 1) answers)) in
     let s = joined_step j (length (values_of a.rows).rows) ns in
-    let t : option_and_then (joined j) (joined_all (heights (map column_of (a ∷ drop (i + 1) answers)))) ≡ total = subst (λ (z : List Answer). option_and_then (joined j) (joined_all (heights (map column_of z))) ≡ total) next e in
-    sym t ∙ (s ∙ ap (option_and_then (λ m. option_and_then (joined m) (joined_all ns))) joins)
+    let t : option_and_then (broadcast_length j) (broadcast_length_all (heights (map column_of (a ∷ drop (i + 1) answers)))) ≡ total = subst (λ (z : List Answer). option_and_then (broadcast_length j) (broadcast_length_all (heights (map column_of z))) ≡ total) next e in
+    sym t ∙ (s ∙ ap (option_and_then (λ m. option_and_then (broadcast_length m) (broadcast_length_all ns))) joins)
 
--- all answers have joined
+-- all answers broadcast
 pub joined_end :
-    (answers : List Answer) (i j : ℕ) (total : Option ℕ) → length answers ≤ i → option_and_then (joined j) (joined_all (heights (map column_of (drop i answers)))) ≡ total → Some j ≡ total
+    (answers : List Answer) (i j : ℕ) (total : Option ℕ) → length answers ≤ i → option_and_then (broadcast_length j) (broadcast_length_all (heights (map column_of (drop i answers)))) ≡ total → Some j ≡ total
 joined_end answers i j total h e =
-    let t : option_and_then (joined j) (joined_all []) ≡ total = subst (λ (z : List Answer). option_and_then (joined j) (joined_all (heights (map column_of z))) ≡ total) (drop_all answers i h) e in
-    sym (joined_one j) ∙ t
+    let t : option_and_then (broadcast_length j) (broadcast_length_all []) ≡ total = subst (λ (z : List Answer). option_and_then (broadcast_length j) (broadcast_length_all (heights (map column_of z))) ≡ total) (drop_all answers i h) e in
+    sym (broadcast_one j) ∙ t
   where
     drop_all : (xs : List Answer) (i : ℕ) → length xs ≤ i → drop i xs ≡ []
     drop_all [] zero h = refl
@@ -98,15 +98,15 @@ pub data AllFit (n : ℕ) : List Contents → Type 0 where
   no_more : AllFit n []
   one_more : {c : Contents} {cs : List Contents} → FitsLength n c → AllFit n cs → AllFit n (c ∷ cs)
 
--- two lengths that join to n are each n or one
-joined_parts : (m k n : ℕ) → joined m k ≡ Some n → ((m ≡ 1) ⊎ (m ≡ n)) × ((k ≡ 1) ⊎ (k ≡ n))
+-- two lengths that broadcast to n are each n or one
+joined_parts : (m k n : ℕ) → broadcast_length m k ≡ Some n → ((m ≡ 1) ⊎ (m ≡ n)) × ((k ≡ 1) ⊎ (k ≡ n))
 joined_parts m k n e = elim (by_eq m k) [
-  | inl s ↦ let f : Some m ≡ Some n = sym (joined_same m k s) ∙ e in let g : m ≡ n = same_Some m n f in (inr g, inr (sym s ∙ g))
+  | inl s ↦ let f : Some m ≡ Some n = sym (broadcast_same m k s) ∙ e in let g : m ≡ n = same_Some m n f in (inr g, inr (sym s ∙ g))
   | inr d ↦ elim (by_eq m 1) [
-    | inl s ↦ let f : Some k ≡ Some n = sym (joined_left m k s) ∙ e in (inl s, inr (same_Some k n f))
+    | inl s ↦ let f : Some k ≡ Some n = sym (broadcast_left m k s) ∙ e in (inl s, inr (same_Some k n f))
     | inr p ↦ elim (by_eq k 1) [
-      | inl s ↦ let f : Some m ≡ Some n = sym (joined_right m k d p s) ∙ e in (inr (same_Some m n f), inl s)
-      | inr q ↦ let f : None ≡ Some n = sym (joined_none m k d p q) ∙ e in cc
+      | inl s ↦ let f : Some m ≡ Some n = sym (broadcast_right m k d p s) ∙ e in (inr (same_Some m n f), inl s)
+      | inr q ↦ let f : None ≡ Some n = sym (broadcast_none m k d p q) ∙ e in cc
     ]
   ]
 ]
@@ -120,11 +120,11 @@ fit_again k n (c ∷ cs) h (one_more f all) = one_more (turn f h) (fit_again k n
     turn (inr e) (inl s) = inl (e ∙ s)
     turn (inr e) (inr s) = inr (e ∙ s)
 
-pub all_fit : (n : ℕ) (cs : List Contents) → joined_all (heights cs) ≡ Some n → AllFit n cs
+pub all_fit : (n : ℕ) (cs : List Contents) → broadcast_length_all (heights cs) ≡ Some n → AllFit n cs
 all_fit n [] e = no_more
-all_fit n (c ∷ cs) e = go (λ k s. all_fit k cs s) (joined_all (heights cs)) refl (sym (joined_cons (length c.values.rows) (heights cs)) ∙ e)
+all_fit n (c ∷ cs) e = go (λ k s. all_fit k cs s) (broadcast_length_all (heights cs)) refl (sym (joined_cons (length c.values.rows) (heights cs)) ∙ e)
   where
-    go : ((k : ℕ) → joined_all (heights cs) ≡ Some k → AllFit k cs) → (o : Option ℕ) → joined_all (heights cs) ≡ o → option_and_then (joined (length c.values.rows)) o ≡ Some n → AllFit n (c ∷ cs)
+    go : ((k : ℕ) → broadcast_length_all (heights cs) ≡ Some k → AllFit k cs) → (o : Option ℕ) → broadcast_length_all (heights cs) ≡ o → option_and_then (broadcast_length (length c.values.rows)) o ≡ Some n → AllFit n (c ∷ cs)
     go rest None s f = cc
     go rest (Some k) s f =
         let (p, q) = joined_parts (length c.values.rows) k n f in
@@ -136,14 +136,14 @@ first_fits n c cs (one_more f all) = f
 pub rest_fit : (n : ℕ) (c : Contents) (cs : List Contents) → AllFit n (c ∷ cs) → AllFit n cs
 rest_fit n c cs (one_more f all) = all
 
--- one more column was stretched
+-- one more column was broadcast
 pub lined_more :
-    (n : ℕ) (whole done pushed : List Contents) (left : List Answer) (a : Answer) (rest : List Answer) (c : Contents) → left ≡ a ∷ rest → c ≡ shown Select n (column_of a) → pushed ≡ done ++ c ∷ [] →
-    whole ≡ done ++ map (shown Select n) (map column_of left) → whole ≡ pushed ++ map (shown Select n) (map column_of rest)
+    (n : ℕ) (whole done pushed : List Contents) (left : List Answer) (a : Answer) (rest : List Answer) (c : Contents) → left ≡ a ∷ rest → c ≡ as_answer Select n (column_of a) → pushed ≡ done ++ c ∷ [] →
+    whole ≡ done ++ map (as_answer Select n) (map column_of left) → whole ≡ pushed ++ map (as_answer Select n) (map column_of rest)
 lined_more n whole done pushed left a rest c steps one push so =
-    let tail = map (shown Select n) (map column_of rest) in
+    let tail = map (as_answer Select n) (map column_of rest) in
     so
-    ∙ (ap (λ (z : List Answer). done ++ map (shown Select n) (map column_of z)) steps
+    ∙ (ap (λ (z : List Answer). done ++ map (as_answer Select n) (map column_of z)) steps
     ∙ (ap (λ (z : Contents). done ++ (z ∷ tail)) (sym one)
     ∙ (sym (append_assoc done (c ∷ []) tail) ∙ ap (λ (z : List Contents). z ++ tail) (sym push))))
 
@@ -222,13 +222,13 @@ checked_at c items ns (us, ds, ok) n i = go ns us ds ok i
 
 module _ (kernels : List Kernel) (frame : List Contents) (items : List AExpr) where
   -- the table holds what the trees mean
-  pub held_rows : (ns : List ℕ) (ts : List Tree) (table : List (Option TypedRows)) → HoldsRoots kernels frame items ns table → DenoteAll items ns (trees ts) → map (held table) ns ≡ map (rows kernels frame) ts
+  pub held_rows : (ns : List ℕ) (ts : List Tree) (table : List (Option TypedRows)) → HoldsRoots kernels frame items ns table → DenoteAll items ns (trees ts) → map (rows_at table) ns ≡ map (rows kernels frame) ts
   held_rows [] [] table h d = refl
   held_rows [] (t ∷ ts) table h d = absurd d
   held_rows (n ∷ ns) [] table h d = absurd d
   held_rows (n ∷ ns) (t ∷ ts) table h (d, ds) =
       let (v, e, m) = h n first in
-      let same : held table n ≡ rows kernels frame t = e ∙ sym (m t d) in
+      let same : rows_at table n ≡ rows kernels frame t = e ∙ sym (m t d) in
       let rest = held_rows ns ts table (λ p i. h p (later i)) ds in
       cc
 
@@ -247,58 +247,58 @@ module _ (kernels : List Kernel) (frame : List Contents) (items : List AExpr) wh
   list_error e ns ts (inr h) d = inr (inl (root_in_list e (places ns) ts h d))
 
 -- a column as the context shows it, of its own length
-abbrev pub as_shown : Context → Contents → Contents
-as_shown context c = named (shown_name context c.name) c.values
+abbrev pub as_answered : Context → Contents → Contents
+as_answered context c = named (answer_name context c.name) c.values
 
-shown_heights : (context : Context) (cs : List Contents) → heights (map (as_shown context) cs) ≡ heights cs
-shown_heights context [] = refl
-shown_heights context (c ∷ cs) = ap (λ ns. length c.values.rows ∷ ns) (shown_heights context cs)
+answer_heights : (context : Context) (cs : List Contents) → heights (map (as_answered context) cs) ≡ heights cs
+answer_heights context [] = refl
+answer_heights context (c ∷ cs) = ap (λ ns. length c.values.rows ∷ ns) (answer_heights context cs)
 
-shown_again : (context : Context) (n : ℕ) (cs : List Contents) → map (shown context n) cs ≡ map (shown Select n) (map (as_shown context) cs)
-shown_again context n [] = refl
-shown_again context n (c ∷ cs) = ap (λ ds. shown context n c ∷ ds) (shown_again context n cs)
+answer_again : (context : Context) (n : ℕ) (cs : List Contents) → map (as_answer context n) cs ≡ map (as_answer Select n) (map (as_answered context) cs)
+answer_again context n [] = refl
+answer_again context n (c ∷ cs) = ap (λ ds. as_answer context n c ∷ ds) (answer_again context n cs)
 
-lined_shown : (context : Context) (cs : List Contents) → lined_up context cs ≡ lined_up Select (map (as_shown context) cs)
-lined_shown context cs = go (joined_all (heights cs)) ∙ ap (option_map (λ n. map (shown Select n) (map (as_shown context) cs))) (ap joined_all (sym (shown_heights context cs)))
+lined_answer : (context : Context) (cs : List Contents) → lined_up context cs ≡ lined_up Select (map (as_answered context) cs)
+lined_answer context cs = go (broadcast_length_all (heights cs)) ∙ ap (option_map (λ n. map (as_answer Select n) (map (as_answered context) cs))) (ap broadcast_length_all (sym (answer_heights context cs)))
   where
-    go : (o : Option ℕ) → option_map (λ n. map (shown context n) cs) o ≡ option_map (λ n. map (shown Select n) (map (as_shown context) cs)) o
+    go : (o : Option ℕ) → option_map (λ n. map (as_answer context n) cs) o ≡ option_map (λ n. map (as_answer Select n) (map (as_answered context) cs)) o
     go None = refl
-    go (Some n) = ap Some (shown_again context n cs)
+    go (Some n) = ap Some (answer_again context n cs)
 
-all_lined : (context : Context) (o : Option (List Contents)) → option_and_then (lined_up context) o ≡ option_and_then (lined_up Select) (option_map (map (as_shown context)) o)
+all_lined : (context : Context) (o : Option (List Contents)) → option_and_then (lined_up context) o ≡ option_and_then (lined_up Select) (option_map (map (as_answered context)) o)
 all_lined context None = refl
-all_lined context (Some cs) = lined_shown context cs
+all_lined context (Some cs) = lined_answer context cs
 
 module _ (kernels : List Kernel) (frame : List Contents) where
   -- answers of these names and rows are what the trees mean
   pub answers_mean :
       (context : Context) (answers : List Answer) (ts : List Tree) → map (λ (a : Answer). Some (values_of a.rows)) answers ≡ map (rows kernels frame) ts →
-      map (λ (a : Answer). a.name) answers ≡ map (λ t. shown_name context (name t)) ts →
-      option_map (map (as_shown context)) (all_of (map (mean kernels frame) ts)) ≡ Some (map column_of answers)
+      map (λ (a : Answer). a.name) answers ≡ map (λ t. answer_name context (name t)) ts →
+      option_map (map (as_answered context)) (all_of (map (mean kernels frame) ts)) ≡ Some (map column_of answers)
   answers_mean context [] [] e f = refl
   answers_mean context [] (t ∷ ts) e f = cc
   answers_mean context (a ∷ answers) [] e f = cc
   answers_mean context (a ∷ answers) (t ∷ ts) e f =
       let row : Some (values_of a.rows) ≡ rows kernels frame t = cc in
-      let called : a.name ≡ shown_name context (name t) = cc in
+      let called : a.name ≡ answer_name context (name t) = cc in
       let rows_left : map (λ (a : Answer). Some (values_of a.rows)) answers ≡ map (rows kernels frame) ts = cc in
-      let names_left : map (λ (a : Answer). a.name) answers ≡ map (λ t. shown_name context (name t)) ts = cc in
+      let names_left : map (λ (a : Answer). a.name) answers ≡ map (λ t. answer_name context (name t)) ts = cc in
       let rest = answers_mean context answers ts rows_left names_left in
-      ap (λ (o : Option TypedRows). option_map (map (as_shown context)) (option_and_then (λ (c : Contents). option_map (λ cs. c ∷ cs) (all_of (map (mean kernels frame) ts))) (option_map (named (name t)) o))) (sym row)
-      ∙ (more_shown context (named (name t) (values_of a.rows)) (all_of (map (mean kernels frame) ts))
-      ∙ (ap (option_map (λ cs. as_shown context (named (name t) (values_of a.rows)) ∷ cs)) rest
+      ap (λ (o : Option TypedRows). option_map (map (as_answered context)) (option_and_then (λ (c : Contents). option_map (λ cs. c ∷ cs) (all_of (map (mean kernels frame) ts))) (option_map (named (name t)) o))) (sym row)
+      ∙ (more_answers context (named (name t) (values_of a.rows)) (all_of (map (mean kernels frame) ts))
+      ∙ (ap (option_map (λ cs. as_answered context (named (name t) (values_of a.rows)) ∷ cs)) rest
       ∙ ap (λ (m : List ℕ). Some (named m (values_of a.rows) ∷ map column_of answers)) (sym called)))
     where
-      more_shown :
+      more_answers :
           (context : Context) (c : Contents) (o : Option (List Contents)) →
-          option_map (map (as_shown context)) (option_map (λ cs. c ∷ cs) o) ≡ option_map (λ cs. as_shown context c ∷ cs) (option_map (map (as_shown context)) o)
-      more_shown context c None = refl
-      more_shown context c (Some cs) = refl
+          option_map (map (as_answered context)) (option_map (λ cs. c ∷ cs) o) ≡ option_map (λ cs. as_answered context c ∷ cs) (option_map (map (as_answered context)) o)
+      more_answers context c None = refl
+      more_answers context c (Some cs) = refl
 
   -- and what the list means
   pub listed_mean :
       (context : Context) (answers : List Answer) (ts : List Tree) → map (λ (a : Answer). Some (values_of a.rows)) answers ≡ map (rows kernels frame) ts →
-      map (λ (a : Answer). a.name) answers ≡ map (λ t. shown_name context (name t)) ts → mean_list kernels frame context ts ≡ lined_up Select (map column_of answers)
+      map (λ (a : Answer). a.name) answers ≡ map (λ t. answer_name context (name t)) ts → mean_list kernels frame context ts ≡ lined_up Select (map column_of answers)
   listed_mean context answers ts e f = all_lined context (all_of (map (mean kernels frame) ts)) ∙ ap (option_and_then (lined_up Select)) (answers_mean context answers ts e f)
 
   all_rows : (answers : List Answer) → all_of (map (λ (a : Answer). Some (values_of a.rows)) answers) ≡ Some (map (λ (a : Answer). values_of a.rows) answers)
@@ -309,21 +309,21 @@ module _ (kernels : List Kernel) (frame : List Contents) where
   same_heights [] = refl
   same_heights (a ∷ answers) = ap (λ ns. length (values_of a.rows).rows ∷ ns) (same_heights answers)
 
-  no_length : (cs : List Contents) → lined_up Select cs ≡ None → joined_all (heights cs) ≡ None
-  no_length cs e = go (joined_all (heights cs)) refl
+  no_length : (cs : List Contents) → lined_up Select cs ≡ None → broadcast_length_all (heights cs) ≡ None
+  no_length cs e = go (broadcast_length_all (heights cs)) refl
     where
-      go : (o : Option ℕ) → joined_all (heights cs) ≡ o → joined_all (heights cs) ≡ None
+      go : (o : Option ℕ) → broadcast_length_all (heights cs) ≡ o → broadcast_length_all (heights cs) ≡ None
       go None s = s
       go (Some n) s = let f : lined_up Select cs ≡ Some _ = ap (option_map _) s in cc
 
-  -- answers that do not line up are columns whose lengths do not join
+  -- answers that do not line up are columns whose lengths do not broadcast
   pub uneven_answers :
       (answers : List Answer) (ts : List Tree) → map (λ (a : Answer). Some (values_of a.rows)) answers ≡ map (rows kernels frame) ts → lined_up Select (map column_of answers) ≡ None →
       HasUnevenInputs (map (rows kernels frame) ts)
   uneven_answers answers ts e n = (
     map (λ (a : Answer). values_of a.rows) answers,
     sym (ap all_of e) ∙ all_rows answers,
-    sym (ap joined_all (same_heights answers)) ∙ no_length (map column_of answers) n,
+    sym (ap broadcast_length_all (same_heights answers)) ∙ no_length (map column_of answers) n,
   )
 
   -- where a tree has a fault the list means nothing
@@ -331,7 +331,7 @@ module _ (kernels : List Kernel) (frame : List Contents) where
   faulty_list c same fits e [] ok h = elim h [ ]
   faulty_list c same fits e (t ∷ ts) ((k, ok), oks) (of_first h) =
       let h' : HasFault c.kernels frame t e = subst (λ (z : List Kernel). HasFault z frame t e) (sym same) h in
-      let nothing : rows c.kernels frame t ≡ None = fault-nothing c frame fits t k (HasKind-Has c t k ok) e h' in
+      let nothing : rows c.kernels frame t ≡ None = fault-nothing c frame fits t k (HasType-Has c t k ok) e h' in
       let nothing' : rows kernels frame t ≡ None = subst (λ (z : List Kernel). rows z frame t ≡ None) same nothing in
       ap (λ (o : Option TypedRows). option_and_then (λ (d : Contents). option_map (λ ds. d ∷ ds) (all_of (map (mean kernels frame) ts))) (option_map (named (name t)) o)) nothing'
   faulty_list c same fits e (t ∷ ts) ((k, ok), oks) (of_rest h) =
@@ -370,8 +370,8 @@ module _ (kernels : List Kernel) (frame : List Contents) (items : List AExpr) (c
   -- the answers are the rows that the table holds of the roots, under their names
   pub record AreAnswers : Type 0 where
     pub holds : HoldsRoots kernels frame items (places ns) table
-    pub rows : map (λ (a : Answer). Some (values_of a.rows)) answers ≡ map (held table) (places ns)
-    pub names : (ts : List Tree) → DenoteTrees items ns ts → map (λ (a : Answer). a.name) answers ≡ map (λ t. shown_name context (name t)) ts
+    pub rows : map (λ (a : Answer). Some (values_of a.rows)) answers ≡ map (rows_at table) (places ns)
+    pub names : (ts : List Tree) → DenoteTrees items ns ts → map (λ (a : Answer). a.name) answers ≡ map (λ t. answer_name context (name t)) ts
 
   answer_rows : (ts : List Tree) → AreAnswers → DenoteTrees items ns ts → map (λ (a : Answer). Some (values_of a.rows)) answers ≡ map (rows kernels frame) ts
   answer_rows ts a d = a.rows ∙ held_rows kernels frame items (places ns) ts table a.holds d

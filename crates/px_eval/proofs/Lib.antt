@@ -1,5 +1,7 @@
+pub mod Lists
+pub mod Ordering
 pub mod Fills
+pub mod Kernels
 pub mod Single
-pub mod Roots
 pub mod Columns
 pub mod Selects

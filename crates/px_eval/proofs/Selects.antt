@@ -1,22 +1,22 @@
 -- What a selection answers, from what was rewritten and what that means.
-use Rattle.std.proofs.Common.{◌≡◌, ◌⊎◌, inl, inr, ◌+◌, ◌-◌, ◌^◌, ◌≤◌, ℕ, suc, List, [], ◌∷◌, ◌++◌, map, length, min, Option, Some, None, Result, Ok, Err, refl, sym, ◌∙◌, ap, subst, arith, length-append}
-use Rattle.std.specs.Prelude.{option_map, option_and_then, slice_get, sum, IsSome, IsOk, IfOk, IfErr, OnOk}
+use Rattle.std.proofs.Common.{◌≡◌, ◌⊎◌, inl, inr, ◌+◌, ◌-◌, ◌^◌, ◌≤◌, ℕ, List, [], ◌∷◌, ◌++◌, map, length, min, Option, Some, None, Result, Ok, Err, refl, sym, ◌∙◌, ap, subst, arith, length-append}
+use Rattle.std.specs.Prelude.{option_map, slice_get, IsSome, IsOk, IfOk, IfErr, OnOk}
 use Rattle.std.specs.List.{All}
 use Rattle.std.proofs.lemmas.List.Elements.{All-head, All-tail}
 use Rattle.std.proofs.lemmas.Option.{same_Some}
 use Rattle.px_base.specs.declared.error.PlanError.{PlanError}
-use Rattle.px_base.specs.declared.error.PlanError.TheVariants.{OutOfMemory, ShapeMismatch}
-use Rattle.px_types.specs.Rows.{TypedRows, Contents}
+use Rattle.px_base.specs.declared.error.PlanError.TheVariants.{OutOfMemory}
+use Rattle.px_semantics.specs.Rows.{TypedRows, Contents}
 use Rattle.px_expr.specs.declared.context.Context.{Context}
 use Rattle.px_expr.specs.declared.context.Context.TheVariants.{Select, Filter}
 use Rattle.px_expr.specs.Plan.{Catalog}
 use Rattle.px_expr.specs.Tree.{Tree, tree, Trees, none, more, trees, fold_trees}
-use Rattle.px_meaning.specs.Check.{Typed, HasKind, check_list}
-use Rattle.px_meaning.specs.Faults.{HasFault, SomeHasFault, of_first, of_rest, HasUnevenInputs}
+use Rattle.px_meaning.specs.Check.{Typed, HasType, check_list}
+use Rattle.px_meaning.specs.Faults.{SomeHasFault, of_first, of_rest, HasUnevenInputs}
 use Rattle.px_meaning.specs.Mean.{rows, named, mean, Same, mean_list}
 use Rattle.px_meaning.specs.Names.{name}
 use Rattle.px_meaning.specs.Rewrites.{IsRewrite}
-use Rattle.px_meaning.specs.Rewriting.{Pairwise, AllReach, AreNormal, Moves}
+use Rattle.px_meaning.specs.Rewriting.{Pairwise, AllReach, Moves}
 use Rattle.px_meaning.specs.Schema.{Fits}
 use Rattle.px_meaning.specs.Weight.{nodes, node_count, count_nodes}
 use Rattle.px_meaning.proofs.Weights.{sum-cons}
@@ -31,14 +31,10 @@ use Rattle.px_plan.specs.Optimized.{Rewritten, typed_trees, RootsDenote, FromChe
 use Rattle.px_eval.specs.Evaluated.{DenoteTrees, HasListFault}
 use Rattle.px_eval.specs.Fills.{HasTicked}
 use Rattle.px_eval.specs.Selected.{Selected, answered, checked_trees, OnChecked, MeansTheSame, IsCounted, IsRefusal}
+use Rattle.px_eval.proofs.Lists.{in_left}
 use Rattle.px_eval.proofs.Columns.{list_of, list_of-is}
 
 -- places that are reached, as many as the nodes of trees
-in_left : (p : ℕ) (ps qs : List ℕ) → IsIn p ps → IsIn p (ps ++ qs)
-in_left p [] qs i = elim i [ ]
-in_left p (_ ∷ ps) qs first = first
-in_left p (m ∷ ps) qs (later i) = later (in_left p ps qs i)
-
 in_right : (p : ℕ) (ps qs : List ℕ) → IsIn p qs → IsIn p (ps ++ qs)
 in_right p [] qs i = i
 in_right p (m ∷ ps) qs i = later (in_right p ps qs i)
@@ -100,13 +96,13 @@ ticked_nodes items ns us s s' ticked ds =
     let h : s' ≤ s + length b.reached = ticked.most b.reached b.all in
     omega arith
 
-kinds_kept : (c : Catalog) (context : Context) (vs : List Typed) (us : Trees) → All (λ (v : Typed). HasKind c v.tree v.kind) vs → Pairwise (rules.MeansTheSame c context) (typed_trees vs) us → AreChecked c us
-kinds_kept c context [] none all h = tt
-kinds_kept c context [] (more u us) all h = absurd h
-kinds_kept c context (v ∷ vs) none all h = absurd h
-kinds_kept c context (v ∷ vs) (more u us) all (m, ms) = (
-  (v.kind, m.kind v.kind (All-head (λ (v : Typed). HasKind c v.tree v.kind) v vs all)),
-  kinds_kept c context vs us (All-tail (λ (v : Typed). HasKind c v.tree v.kind) v vs all) ms,
+types_kept : (c : Catalog) (context : Context) (vs : List Typed) (us : Trees) → All (λ (v : Typed). HasType c v.tree v.value_type) vs → Pairwise (rules.MeansTheSame c context) (typed_trees vs) us → AreChecked c us
+types_kept c context [] none all h = tt
+types_kept c context [] (more u us) all h = absurd h
+types_kept c context (v ∷ vs) none all h = absurd h
+types_kept c context (v ∷ vs) (more u us) all (m, ms) = (
+  (v.value_type, m.value_type v.value_type (All-head (λ (v : Typed). HasType c v.tree v.value_type) v vs all)),
+  types_kept c context vs us (All-tail (λ (v : Typed). HasType c v.tree v.value_type) v vs all) ms,
 )
 
 -- trees of the same rows, and of the same name where the context shows it
@@ -160,7 +156,7 @@ module _ (c : Catalog) (context : Context) (ts : List Tree) (o : Rewritten) wher
       IsOk checked → (us : Trees) × RootsDenote o us → FromChecked checked (Pairwise (rules.MeansTheSame c context)) o → AreCheckedAt c o.arena (places o.roots)
   checked_roots ok (us, d) h =
       let (vs, is) = ok_of checked ok in
-      (us, d, kinds_kept c context vs us (check_list-checked c context ts vs is) (h vs us is d))
+      (us, d, types_kept c context vs us (check_list-checked c context ts vs is) (h vs us is d))
 
   module _ (frame : List Contents) (fits : Fits frame c.schema) where
     pub answer_columns :

@@ -1,6 +1,6 @@
 -- Rows under names.
 use Rattle.std.specs.Prelude.{◌≡◌, ◌⊎◌, ℕ, length}
-use Rattle.px_types.specs.Rows.{Contents}
+use Rattle.px_semantics.specs.Rows.{Contents}
 use Rattle.px_meaning.specs.Mean.{named}
 use Rattle.px_eval.specs.declared.answers.Answer.{Answer}
 use Rattle.px_eval.specs.Table.{values_of}

@@ -2,7 +2,7 @@
 use Rattle.std.specs.Prelude.{◌≡◌, ◌⊎◌, ℕ, ◌+◌, ◌-◌, ◌^◌, ◌≤◌, min, List, map, Result, Ok, Err}
 use Rattle.px_base.specs.declared.error.PlanError.{PlanError}
 use Rattle.px_base.specs.declared.error.PlanError.TheVariants.{OutOfMemory}
-use Rattle.px_types.specs.Rows.{Contents}
+use Rattle.px_semantics.specs.Rows.{Contents}
 use Rattle.px_expr.specs.declared.context.Context.{Context}
 use Rattle.px_expr.specs.declared.expr.Expr.{Expr}
 use Rattle.px_expr.specs.Plan.{Catalog}
@@ -45,6 +45,6 @@ pub record IsCounted (Rewrite : Tree → Tree → Type 0) (ts us : List Tree) (c
   pub at_least : rewrites ≤ rise
   pub at_most : rise ≤ rewrites + node_count (trees us)
 
--- want of memory, the first fault of the check, or a fault that the checked list has on the frame
+-- out of memory, the first fault of the check, or a fault that the checked list has on the frame
 abbrev pub IsRefusal : Catalog → List Contents → Result (List Typed) PlanError → PlanError → Type 0
 IsRefusal c frame checked e = (e ≡ OutOfMemory) ⊎ ((checked ≡ Err e) ⊎ ((vs : List Typed) × (checked ≡ Ok vs) × HasListFault c.kernels frame (checked_trees vs) e))

@@ -1,14 +1,14 @@
 //! Rows under names, as columns of one length.
 ghost use Rattle.std.specs.Prelude.{◌≡◌, ◌⊎◌, ℕ, List, map, Some, None, IfOk, IfErr, IsSome};
 ghost use Rattle.px_base.specs.Answer.{GivesOrMemory};
-ghost use Rattle.px_types.specs.Frames.{heights};
+ghost use Rattle.px_semantics.specs.Frames.{heights};
 ghost use Rattle.px_expr.specs.declared.context.Context.TheVariants.{Select};
 ghost use Rattle.px_expr.specs.Tree.{Tree};
-ghost use Rattle.px_meaning.specs.Mean.{joined_all, shown, shown_name, lined_up};
+ghost use Rattle.px_meaning.specs.Mean.{broadcast_length_all, as_answer, answer_name, lined_up};
 ghost use Rattle.px_meaning.specs.Names.{name};
 ghost use Rattle.px_arena.specs.Denotes.{Denotes, IsIn};
 ghost use Rattle.px_rules.specs.Plan.{places};
-ghost use Rattle.px_eval.specs.Table.{values_of, held};
+ghost use Rattle.px_eval.specs.Table.{values_of, rows_at};
 ghost use Rattle.px_eval.specs.Answers.{column_of, FitsLength};
 ghost use Rattle.px_eval.specs.Evaluated.{DenoteTrees};
 
@@ -28,14 +28,14 @@ pub struct Answer<'f> {
 }
 
 /// The name of what the root denotes, as the context shows it.
-fn shown_name_at(
+fn answer_name_at(
     alloc: Global,
     arena: &Arena,
     root: Node,
     context: Context,
 ) -> Result<SmallStr, PlanError>
     requires { (t : Tree) × Denotes arena.now root.0 t }
-    ensures { (t : Tree) → Denotes arena.now root.0 t → GivesOrMemory result (shown_name context (name t)) }
+    ensures { (t : Tree) → Denotes arena.now root.0 t → GivesOrMemory result (answer_name context (name t)) }
 {
     match context {
         Context::Select => name_at(alloc, arena, root),
@@ -51,13 +51,13 @@ fn answer_at<'f>(
     table: &Table<'f>,
 ) -> Result<Answer<'f>, PlanError>
     requires denotes { (t : Tree) × Denotes arena.now root.0 t }
-    requires filled { IsSome (held table.now root.0) }
-    ensures rows { IfOk result (λ a. Some (values_of a.rows) ≡ held table.now root.0) }
-    ensures name { IfOk result (λ a. (t : Tree) → Denotes arena.now root.0 t → a.name ≡ shown_name context (name t)) }
+    requires filled { IsSome (rows_at table.now root.0) }
+    ensures rows { IfOk result (λ a. Some (values_of a.rows) ≡ rows_at table.now root.0) }
+    ensures name { IfOk result (λ a. (t : Tree) → Denotes arena.now root.0 t → a.name ≡ answer_name context (name t)) }
     ensures err { IfErr result (λ e. e ≡ PlanError.OutOfMemory) }
 {
     let rows = table.share(root)?;
-    let name = shown_name_at(alloc, arena, root, context)?;
+    let name = answer_name_at(alloc, arena, root, context)?;
     Ok(Answer { name, rows })
 }
 
@@ -70,9 +70,11 @@ pub fn answers_of<'f>(
     table: &Table<'f>,
 ) -> Result<Vec<Answer<'f>>, PlanError>
     requires denote { (ts : List Tree) × DenoteTrees arena.now roots.now ts }
-    requires filled { (n : ℕ) → IsIn n (places roots.now) → IsSome (held table.now n) }
-    ensures rows { IfOk result (λ all. map (λ a. Some (values_of a.rows)) all.items ≡ map (held table.now) (places roots.now)) }
-    ensures names { IfOk result (λ all. (ts : List Tree) → DenoteTrees arena.now roots.now ts → map (λ a. a.name) all.items ≡ map (λ t. shown_name context (name t)) ts) }
+    requires filled { (n : ℕ) → IsIn n (places roots.now) → IsSome (rows_at table.now n) }
+    ensures rows { IfOk result (λ all. map (λ a. Some (values_of a.rows)) all.items
+        ≡ map (rows_at table.now) (places roots.now)) }
+    ensures names { IfOk result (λ all. (ts : List Tree) → DenoteTrees arena.now roots.now ts
+        → map (λ a. a.name) all.items ≡ map (λ t. answer_name context (name t)) ts) }
     ensures err { IfErr result (λ e. e ≡ PlanError.OutOfMemory) }
 {
     let mut answers = Vec::new(alloc);
@@ -85,33 +87,33 @@ pub fn answers_of<'f>(
     Ok(answers)
 }
 
-/// The length to which the lengths join.
+/// The length to which the lengths broadcast.
 fn joined_length(answers: &[Answer<'_>]) -> Option<u32>
-    ensures { result ≡ joined_all (heights (map column_of answers.now)) }
+    ensures { result ≡ broadcast_length_all (heights (map column_of answers.now)) }
 {
-    let mut joined = 1;
+    let mut broadcast_length = 1;
     for answer in answers {
-        joined = join_lengths(joined, answer.rows.column().len())?;
+        broadcast_length = join_lengths(broadcast_length, answer.rows.buffer().len())?;
     }
-    Some(joined)
+    Some(broadcast_length)
 }
 
-/// The column with its one row so often, where it has another length.
+/// The column of the answer, its one row so often where it has another length.
 fn stretched(alloc: Global, answer: Answer<'_>, len: u32) -> Result<Column, PlanError>
     requires { FitsLength len (column_of answer) }
-    ensures { GivesOrMemory result (shown Select len (column_of answer.entry)) }
+    ensures { GivesOrMemory result (as_answer Select len (column_of answer.entry)) }
 {
-    let column = answer.rows.column();
-    if column.len() == len {
+    let buffer = answer.rows.buffer();
+    if buffer.len() == len {
         return answer.rows.into_column(alloc, answer.name);
     }
-    let buffer = column.buffer().repeated(alloc, len)?;
-    Ok(Column::new(answer.name, buffer))
+    let wide = buffer.repeated(alloc, len)?;
+    Ok(Column::new(answer.name, wide))
 }
 
 fn stretch_all(alloc: Global, answers: Vec<Answer<'_>>, len: u32) -> Result<ColumnList, PlanError>
-    requires { joined_all (heights (map column_of answers.items)) ≡ Some len }
-    ensures ok { IfOk result (λ l. l.entries ≡ map (shown Select len) (map column_of answers.entry.items)) }
+    requires { broadcast_length_all (heights (map column_of answers.items)) ≡ Some len }
+    ensures ok { IfOk result (λ l. l.entries ≡ map (as_answer Select len) (map column_of answers.entry.items)) }
     ensures err { IfErr result (λ e. e ≡ PlanError.OutOfMemory) }
 {
     let mut columns = ColumnList::new(alloc);
@@ -121,10 +123,11 @@ fn stretch_all(alloc: Global, answers: Vec<Answer<'_>>, len: u32) -> Result<Colu
     Ok(columns)
 }
 
-/// The columns, each of the length to which all join. `ShapeMismatch` where they do not join.
+/// The columns, each broadcast to the common length of all. `ShapeMismatch` where they do not broadcast.
 pub fn line_up(alloc: Global, answers: Vec<Answer<'_>>) -> Result<ColumnList, PlanError>
     ensures ok { IfOk result (λ l. lined_up Select (map column_of answers.entry.items) ≡ Some l.entries) }
-    ensures err { IfErr result (λ e. (e ≡ PlanError.OutOfMemory) ⊎ ((e ≡ PlanError.ShapeMismatch) × (lined_up Select (map column_of answers.entry.items) ≡ None))) }
+    ensures err { IfErr result (λ e. (e ≡ PlanError.OutOfMemory)
+        ⊎ ((e ≡ PlanError.ShapeMismatch) × (lined_up Select (map column_of answers.entry.items) ≡ None))) }
 {
     match joined_length(answers.as_slice()) {
         None => Err(PlanError::ShapeMismatch),

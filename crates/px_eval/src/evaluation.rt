@@ -27,10 +27,16 @@ pub fn evaluate_in<L: Ledger>(
     context: Context,
     steps: &mut Steps<L>,
 ) -> Result<ColumnList, PlanError>
-    requires { AreCheckedAt (frame_catalog (⟦<KernelList as Kernels>⟧.definitions kernels.now) frame.now) arena.now (places roots.now) }
-    ensures columns { IfOk result (λ columns. (ts : List Tree) → DenoteTrees arena.now roots.now ts → mean_list (⟦<KernelList as Kernels>⟧.definitions kernels.now) frame.now context ts ≡ Some columns.entries) }
-    ensures err { IfErr result (λ e. (ts : List Tree) → DenoteTrees arena.now roots.now ts → (e ≡ PlanError.OutOfMemory) ⊎ HasListFault (⟦<KernelList as Kernels>⟧.definitions kernels.now) frame.now ts e) }
-    ensures complete { (ts : List Tree) → DenoteTrees arena.now roots.now ts → IsSome (mean_list (⟦<KernelList as Kernels>⟧.definitions kernels.now) frame.now context ts) → IfErr result (λ e. e ≡ PlanError.OutOfMemory) }
+    requires { AreCheckedAt (frame_catalog (⟦<KernelList as Kernels>⟧.definitions kernels.now) frame.now) arena.now
+        (places roots.now) }
+    ensures columns { IfOk result (λ columns. (ts : List Tree) → DenoteTrees arena.now roots.now ts
+        → mean_list (⟦<KernelList as Kernels>⟧.definitions kernels.now) frame.now context ts ≡ Some columns.entries) }
+    ensures err { IfErr result (λ e. (ts : List Tree) → DenoteTrees arena.now roots.now ts
+        → (e ≡ PlanError.OutOfMemory) ⊎ HasListFault
+        (⟦<KernelList as Kernels>⟧.definitions kernels.now) frame.now ts e) }
+    ensures complete { (ts : List Tree) → DenoteTrees arena.now roots.now ts
+        → IsSome (mean_list (⟦<KernelList as Kernels>⟧.definitions kernels.now) frame.now context ts)
+        → IfErr result (λ e. e ≡ PlanError.OutOfMemory) }
     ensures ticks { HasTicked arena.now (places roots.now) steps.old steps.new }
 {
     let _columns = frame.columns();
@@ -49,7 +55,7 @@ pub fn evaluate_in<L: Ledger>(
 
 /// The columns that the roots mean together: each under its name, with its one row repeated where
 /// another has more. The errors are out of memory, a fault that a root has on this frame, and
-/// `ShapeMismatch` where the lengths do not join. A place that several roots reach is evaluated
+/// `ShapeMismatch` where the lengths do not broadcast. A place that several roots reach is evaluated
 /// once, and the steps rise by no more than the places that are reached.
 pub fn evaluate<L: Ledger>(
     alloc: Global,
@@ -59,10 +65,16 @@ pub fn evaluate<L: Ledger>(
     kernels: &KernelList,
     steps: &mut Steps<L>,
 ) -> Result<ColumnList, PlanError>
-    requires { AreCheckedAt (frame_catalog (⟦<KernelList as Kernels>⟧.definitions kernels.now) frame.now) arena.now (places roots.now.entries) }
-    ensures columns { IfOk result (λ columns. (ts : List Tree) → DenoteTrees arena.now roots.now.entries ts → mean_list (⟦<KernelList as Kernels>⟧.definitions kernels.now) frame.now Select ts ≡ Some columns.entries) }
-    ensures err { IfErr result (λ e. (ts : List Tree) → DenoteTrees arena.now roots.now.entries ts → (e ≡ PlanError.OutOfMemory) ⊎ HasListFault (⟦<KernelList as Kernels>⟧.definitions kernels.now) frame.now ts e) }
-    ensures complete { (ts : List Tree) → DenoteTrees arena.now roots.now.entries ts → IsSome (mean_list (⟦<KernelList as Kernels>⟧.definitions kernels.now) frame.now Select ts) → IfErr result (λ e. e ≡ PlanError.OutOfMemory) }
+    requires { AreCheckedAt (frame_catalog (⟦<KernelList as Kernels>⟧.definitions kernels.now) frame.now) arena.now
+        (places roots.now.entries) }
+    ensures columns { IfOk result (λ columns. (ts : List Tree) → DenoteTrees arena.now roots.now.entries ts
+        → mean_list (⟦<KernelList as Kernels>⟧.definitions kernels.now) frame.now Select ts ≡ Some columns.entries) }
+    ensures err { IfErr result (λ e. (ts : List Tree) → DenoteTrees arena.now roots.now.entries ts
+        → (e ≡ PlanError.OutOfMemory) ⊎ HasListFault
+        (⟦<KernelList as Kernels>⟧.definitions kernels.now) frame.now ts e) }
+    ensures complete { (ts : List Tree) → DenoteTrees arena.now roots.now.entries ts
+        → IsSome (mean_list (⟦<KernelList as Kernels>⟧.definitions kernels.now) frame.now Select ts)
+        → IfErr result (λ e. e ≡ PlanError.OutOfMemory) }
     ensures ticks { HasTicked arena.now (places roots.now.entries) steps.old steps.new }
 {
     evaluate_in(

@@ -6,6 +6,7 @@ mod evaluation;
 mod filling;
 mod functions;
 mod operators;
+mod order;
 mod own;
 mod scalars;
 mod selection;
@@ -13,3 +14,6 @@ mod table;
 
 pub use evaluation::evaluate;
 pub use selection::{Collected, run_select};
+
+#[cfg(test)]
+mod tests;

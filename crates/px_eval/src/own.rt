@@ -1,25 +1,28 @@
 //! What one node gives over the rows of its inputs.
-ghost use Rattle.std.specs.Prelude.{◌≡◌, IfOk, IfErr, Some};
+ghost use Rattle.std.specs.Prelude.{◌≡◌, ◌⊎◌, IfOk, IfErr, IfSome, IsSome, Some, None};
+ghost use Rattle.px_semantics.specs.Casts.{HasCast};
+ghost use Rattle.px_types.specs.ValueTypes.{value_type_of};
 ghost use Rattle.px_types.specs.declared.function.FunctionExpr.TheVariants.{Fused};
 ghost use Rattle.px_meaning.specs.Schema.{Fits, schema_of};
-ghost use Rattle.px_eval.specs.Own.{IsReady, IsAnswer, IsReason, IsOwned, IsFunction, IsOfOne};
+ghost use Rattle.px_eval.specs.Own.{IsReady, IsAnswer, IsReason, IsOwned, IsFunction, IsOfOne, held_cast};
+ghost use Rattle.px_eval.specs.Table.{rows_at, values_of};
 
 use crate::functions::{call_one, fused};
-use crate::operators::{binary, cast_column, choose};
+use crate::operators::{binary, cast, choose};
 use crate::scalars::literal;
 use crate::table::{Rows, Table};
-use px_arena::AExpr;
-use px_column::{Column, Frame};
+use px_arena::{AExpr, Node};
+use px_column::{Buffer, Frame};
 use px_expr::Kernels;
-use px_types::{FunctionExpr, FusedOperator, PlanError};
+use px_types::{CastOptions, DataType, FunctionExpr, FusedOperator, PlanError};
 use std::alloc::Global;
 
-/// The column as an answer.
-fn owned<'f>(alloc: Global, column: Result<Column, PlanError>) -> Result<Rows<'f>, PlanError>
-    ensures { IsOwned result column }
+/// The buffer as an answer.
+fn owned<'f>(alloc: Global, buffer: Result<Buffer, PlanError>) -> Result<Rows<'f>, PlanError>
+    ensures { IsOwned result buffer }
 {
-    match column {
-        Ok(column) => Rows::new(alloc, column),
+    match buffer {
+        Ok(buffer) => Rows::new(alloc, buffer),
         Err(e) => Err(e),
     }
 }
@@ -87,6 +90,29 @@ fn own_function<'f, K: Kernels>(
     }
 }
 
+/// The rows of the place in another type. Where that is their own type they are not copied.
+fn own_cast<'f>(
+    alloc: Global,
+    input: Node,
+    dtype: &DataType,
+    options: CastOptions,
+    table: &Table<'f>,
+) -> Result<Rows<'f>, PlanError>
+    requires filled { IsSome (rows_at table.now input.0) }
+    requires castable { IfSome (rows_at table.now input.0) (λ a. HasCast a.value_type (value_type_of dtype.now)) }
+    ensures ok { IfOk result (λ r. held_cast table.now input.0 options dtype.now ≡ Some (values_of r)) }
+    ensures err { IfErr result (λ e. (e ≡ PlanError.OutOfMemory)
+        ⊎ ((e ≡ PlanError.InvalidCast) × (held_cast table.now input.0 options dtype.now ≡ None))) }
+{
+    let from = table.at(input);
+    // The clauses of its length say that the rows are of its type.
+    let _len = from.len();
+    if dtype.value_type() == Some(from.value_type()) {
+        return table.share(input);
+    }
+    owned(alloc, cast(alloc, from, dtype, options))
+}
+
 /// The node's rows.
 pub fn own_rows<'f, K: Kernels>(
     alloc: Global,
@@ -103,7 +129,7 @@ pub fn own_rows<'f, K: Kernels>(
     match expr {
         AExpr::Alias(input, _) => table.share(*input),
         AExpr::Column(name) => match frame.column(name.as_str()) {
-            Some(column) => Ok(Rows::Borrowed(column)),
+            Some(column) => Ok(Rows::from_column(column)),
             None => unreachable!(),
         },
         AExpr::Literal(value) => match literal(alloc, value) {
@@ -119,10 +145,7 @@ pub fn own_rows<'f, K: Kernels>(
             expr: input,
             dtype,
             options,
-        } => {
-            let from = table.at(*input);
-            owned(alloc, cast_column(alloc, from, dtype, *options))
-        }
+        } => own_cast(alloc, *input, dtype, *options, table),
         AExpr::Ternary {
             predicate,
             truthy,

@@ -1,36 +1,27 @@
-//! Literals as columns.
+//! The rows of literals.
 ghost use Rattle.std.specs.Prelude.{◌≡◌, List, [], ◌∷◌, Some, IfOk, IfErr};
 ghost use Rattle.px_base.specs.Answer.{GivesOrMemory};
-ghost use Rattle.px_types.specs.Rows.{Integer, TypedRows};
+ghost use Rattle.px_semantics.specs.Rows.{Integer, TypedRows};
 ghost use Rattle.px_types.specs.declared.value_type.ValueType.{ValueType};
-ghost use Rattle.px_column.specs.ColumnOf.{kind_of, rows_of};
 ghost use Rattle.px_meaning.specs.Literals.{literal_rows};
 ghost use Rattle.px_meaning.specs.Signatures.{literal_type};
-ghost use Rattle.px_eval.specs.Table.{values_of, GivesValues};
+ghost use Rattle.px_eval.specs.Table.{values_of};
 
 use crate::table::Rows;
-use px_column::{Buffer, Column};
+use px_arrays::{BooleanArray, IntegerArray, IntegerArrayBuilder};
+use px_column::Buffer;
 use px_expr::LiteralValue;
-use px_integers::Number;
-use px_rows::{Numbers, NumbersBuilder, Truths};
-use px_types::{PlanError, SmallStr};
+use px_integers::Integer;
+use px_types::PlanError;
 use std::alloc::Global;
 
 /// The number in one row.
-fn one_number<T: Number>(alloc: Global, x: T) -> Result<Numbers<T>, PlanError>
-    ensures { GivesOrMemory result (Some (Integer (T.number x)) ∷ []) }
+fn one_number<T: Integer>(alloc: Global, x: T) -> Result<IntegerArray<T>, PlanError>
+    ensures { GivesOrMemory result (Some (Integer (T.integer x)) ∷ []) }
 {
-    let mut rows = NumbersBuilder::with_capacity(alloc, 1)?;
+    let mut rows = IntegerArrayBuilder::with_capacity(alloc, 1)?;
     rows.push(Some(x))?;
     rows.finish()
-}
-
-/// The rows of the buffer as an answer.
-fn owned<'f>(alloc: Global, buffer: Buffer) -> Result<Rows<'f>, PlanError>
-    ensures { GivesValues result (record { kind = kind_of buffer; rows = rows_of buffer }) }
-{
-    let name = SmallStr::new(alloc, "")?;
-    Rows::new(alloc, Column::new(name, buffer))
 }
 
 /// The rows of a literal that is a column: a series as it is, else one row.
@@ -40,20 +31,20 @@ pub fn literal<'f>(alloc: Global, value: &'f LiteralValue) -> Result<Rows<'f>, P
     ensures err { IfErr result (λ e. e ≡ PlanError.OutOfMemory) }
 {
     match value {
-        LiteralValue::Series(column) => Ok(Rows::Borrowed(column)),
-        LiteralValue::Null => owned(alloc, Buffer::Null(1)),
+        LiteralValue::Series(column) => Ok(Rows::from_column(column)),
+        LiteralValue::Null => Rows::new(alloc, Buffer::Null(1)),
         LiteralValue::Boolean(x) => {
-            let rows = Truths::from_options(alloc, &[Some(*x)])?;
-            owned(alloc, Buffer::Boolean(rows))
+            let rows = BooleanArray::from_options(alloc, &[Some(*x)])?;
+            Rows::new(alloc, Buffer::Boolean(rows))
         }
-        LiteralValue::UInt8(x) => owned(alloc, Buffer::UInt8(one_number(alloc, *x)?)),
-        LiteralValue::UInt16(x) => owned(alloc, Buffer::UInt16(one_number(alloc, *x)?)),
-        LiteralValue::UInt32(x) => owned(alloc, Buffer::UInt32(one_number(alloc, *x)?)),
-        LiteralValue::UInt64(x) => owned(alloc, Buffer::UInt64(one_number(alloc, *x)?)),
-        LiteralValue::Int8(x) => owned(alloc, Buffer::Int8(one_number(alloc, *x)?)),
-        LiteralValue::Int16(x) => owned(alloc, Buffer::Int16(one_number(alloc, *x)?)),
-        LiteralValue::Int32(x) => owned(alloc, Buffer::Int32(one_number(alloc, *x)?)),
-        LiteralValue::Int64(x) => owned(alloc, Buffer::Int64(one_number(alloc, *x)?)),
+        LiteralValue::UInt8(x) => Rows::new(alloc, Buffer::UInt8(one_number(alloc, *x)?)),
+        LiteralValue::UInt16(x) => Rows::new(alloc, Buffer::UInt16(one_number(alloc, *x)?)),
+        LiteralValue::UInt32(x) => Rows::new(alloc, Buffer::UInt32(one_number(alloc, *x)?)),
+        LiteralValue::UInt64(x) => Rows::new(alloc, Buffer::UInt64(one_number(alloc, *x)?)),
+        LiteralValue::Int8(x) => Rows::new(alloc, Buffer::Int8(one_number(alloc, *x)?)),
+        LiteralValue::Int16(x) => Rows::new(alloc, Buffer::Int16(one_number(alloc, *x)?)),
+        LiteralValue::Int32(x) => Rows::new(alloc, Buffer::Int32(one_number(alloc, *x)?)),
+        LiteralValue::Int64(x) => Rows::new(alloc, Buffer::Int64(one_number(alloc, *x)?)),
         _ => unreachable!(),
     }
 }

@@ -89,12 +89,19 @@ fn collect<L: Ledger>(
     optimized: &Optimized,
     steps: &mut Steps<L>,
 ) -> Result<Collected, PlanError>
-    requires { AreCheckedAt (frame_catalog (⟦<KernelList as Kernels>⟧.definitions kernels.now) frame.now) optimized.now.arena (places optimized.now.roots) }
+    requires { AreCheckedAt (frame_catalog
+        (⟦<KernelList as Kernels>⟧.definitions kernels.now) frame.now) optimized.now.arena
+        (places optimized.now.roots) }
     ensures trees { IfOk result (λ s. DenoteTrees optimized.now.arena optimized.now.roots (answered s)) }
-    ensures columns { IfOk result (λ s. mean_list (⟦<KernelList as Kernels>⟧.definitions kernels.now) frame.now context (answered s) ≡ Some s.columns) }
+    ensures columns { IfOk result (λ s. mean_list
+        (⟦<KernelList as Kernels>⟧.definitions kernels.now) frame.now context (answered s) ≡ Some s.columns) }
     ensures rewrites { IfOk result (λ s. s.rewrites ≡ optimized.now.rewrites) }
-    ensures err { IfErr result (λ e. (ts : List Tree) → DenoteTrees optimized.now.arena optimized.now.roots ts → (e ≡ PlanError.OutOfMemory) ⊎ HasListFault (⟦<KernelList as Kernels>⟧.definitions kernels.now) frame.now ts e) }
-    ensures complete { (ts : List Tree) → DenoteTrees optimized.now.arena optimized.now.roots ts → IsSome (mean_list (⟦<KernelList as Kernels>⟧.definitions kernels.now) frame.now context ts) → IfErr result (λ e. e ≡ PlanError.OutOfMemory) }
+    ensures err { IfErr result (λ e. (ts : List Tree) → DenoteTrees optimized.now.arena optimized.now.roots ts
+        → (e ≡ PlanError.OutOfMemory) ⊎ HasListFault
+        (⟦<KernelList as Kernels>⟧.definitions kernels.now) frame.now ts e) }
+    ensures complete { (ts : List Tree) → DenoteTrees optimized.now.arena optimized.now.roots ts
+        → IsSome (mean_list (⟦<KernelList as Kernels>⟧.definitions kernels.now) frame.now context ts)
+        → IfErr result (λ e. e ≡ PlanError.OutOfMemory) }
     ensures ticks { HasTicked optimized.now.arena (places optimized.now.roots) steps.old steps.new }
 {
     let arena = optimized.arena();
@@ -117,7 +124,7 @@ fn collect<L: Ledger>(
 /// Checks the expressions under the frame's schema, rewrites them until no rewrite applies, and
 /// evaluates them on the frame. In a select each answers a column under its name, in a filter a mask
 /// without a name. The first fault of the check comes before any evaluation. Later errors are faults
-/// that a checked expression has on this frame, and `ShapeMismatch` where the lengths do not join.
+/// that a checked expression has on this frame, and `ShapeMismatch` where the lengths do not broadcast.
 pub fn run_select<L: Ledger>(
     alloc: Global,
     frame: &Frame,

@@ -1,41 +1,49 @@
-//! The rows that places of an arena mean, each held once.
-ghost use Rattle.std.specs.Prelude.{◌≡◌, ◌<◌, length, slice_set, replicate, Some, None, IfOk, IfErr, IsSome, is_some};
+//! The rows that places of an arena mean, each kept once.
+ghost use Rattle.std.specs.Prelude.{◌≡◌, ◌<◌, length, slice_set, replicate, Some, None, IfOk, IfErr, IsSome};
 ghost use Rattle.px_base.specs.Answer.{GivesOrMemory};
-ghost use Rattle.px_eval.specs.Table.{values_of, held, GivesValues};
+ghost use Rattle.px_kernels.specs.Buffers as buffers;
+ghost use Rattle.px_eval.specs.Table.{values_of, rows_at, GivesValues};
 
 use px_arena::Node;
-use px_column::Column;
+use px_column::{Buffer, Column};
 use px_types::{PlanError, SmallStr};
 use std::alloc::Global;
 use std::marker::Model;
 use std::rc::Rc;
 
-/// The rows of a place: those of a column that the frame or a literal has, or of a new one, which
+/// The rows of a place: those in a column that the frame or a literal has, or in a new buffer, which
 /// places may share.
 #[derive(Drop)]
 pub enum Rows<'f> {
-    Borrowed(&'f Column),
-    Shared(Rc<Column>),
+    Borrowed(&'f Buffer),
+    Shared(Rc<Buffer>),
 }
 
 impl<'f> Rows<'f> {
-    /// The rows of a new column.
-    pub fn new(alloc: Global, column: Column) -> Result<Rows<'f>, PlanError>
-        ensures { GivesValues result column.values }
+    /// The rows of a new buffer.
+    pub fn new(alloc: Global, buffer: Buffer) -> Result<Rows<'f>, PlanError>
+        ensures { GivesValues result (buffers.values_of buffer) }
     {
-        match Rc::new(alloc, column) {
-            Ok(column) => Ok(Rows::Shared(column)),
+        match Rc::new(alloc, buffer) {
+            Ok(buffer) => Ok(Rows::Shared(buffer)),
             Err(_) => Err(PlanError::OutOfMemory),
         }
     }
 
-    /// The column that has them.
-    pub fn column(&self) -> &Column
-        ensures { result.now.values ≡ values_of self.now }
+    /// The rows of a column, not copied.
+    pub fn from_column(column: &'f Column) -> Rows<'f>
+        ensures { values_of result ≡ column.now.values }
+    {
+        Rows::Borrowed(column.buffer())
+    }
+
+    /// The buffer that has them.
+    pub fn buffer(&self) -> &Buffer
+        ensures { buffers.values_of result.now ≡ values_of self.now }
     {
         match self {
-            Rows::Borrowed(column) => *column,
-            Rows::Shared(column) => column.as_ref(),
+            Rows::Borrowed(buffer) => *buffer,
+            Rows::Shared(buffer) => buffer.as_ref(),
         }
     }
 
@@ -44,8 +52,8 @@ impl<'f> Rows<'f> {
         ensures { GivesValues result (values_of self.now) }
     {
         match self {
-            Rows::Borrowed(column) => Ok(Rows::Borrowed(*column)),
-            Rows::Shared(column) => Ok(Rows::Shared(column.clone()?)),
+            Rows::Borrowed(buffer) => Ok(Rows::Borrowed(*buffer)),
+            Rows::Shared(buffer) => Ok(Rows::Shared(buffer.clone()?)),
         }
     }
 
@@ -54,10 +62,10 @@ impl<'f> Rows<'f> {
         ensures { GivesOrMemory result (record { name = name; values = values_of self.entry }) }
     {
         match self {
-            Rows::Borrowed(column) => Ok(Column::new(name, column.buffer().try_clone(alloc)?)),
-            Rows::Shared(column) => match Rc::try_unwrap(column) {
-                Ok(column) => Ok(column.rename(name)),
-                Err(column) => Ok(Column::new(name, column.buffer().try_clone(alloc)?)),
+            Rows::Borrowed(buffer) => Ok(Column::new(name, buffer.try_clone(alloc)?)),
+            Rows::Shared(buffer) => match Rc::try_unwrap(buffer) {
+                Ok(buffer) => Ok(Column::new(name, buffer)),
+                Err(buffer) => Ok(Column::new(name, buffer.try_clone(alloc)?)),
             },
         }
     }
@@ -71,7 +79,7 @@ pub struct Table<'f> {
 
 impl<'f> Model for Table<'f> {
     ghost use Rattle.std.specs.Prelude.{List, Option, map, option_map};
-    ghost use Rattle.px_types.specs.Rows.{TypedRows};
+    ghost use Rattle.px_semantics.specs.Rows.{TypedRows};
     ghost use Rattle.px_eval.specs.Table.{values_of};
 
     ghost Value = { List (Option TypedRows) };
@@ -92,18 +100,10 @@ impl<'f> Table<'f> {
         Ok(Table { places })
     }
 
-    /// Whether a place holds rows.
-    pub fn is_filled(&self, node: Node) -> bool
-        requires { node.0 < length self.now }
-        ensures { result ≡ is_some (held self.now node.0) }
-    {
-        self.places[node.0].is_some()
-    }
-
     /// The rows of a place that holds some.
     fn rows(&self, node: Node) -> &Rows<'f>
-        requires { IsSome (held self.now node.0) }
-        ensures { held self.now node.0 ≡ Some (values_of result.now) }
+        requires { IsSome (rows_at self.now node.0) }
+        ensures { rows_at self.now node.0 ≡ Some (values_of result.now) }
     {
         prove!(node.0 < self.places.len());
         match &self.places[node.0] {
@@ -112,18 +112,18 @@ impl<'f> Table<'f> {
         }
     }
 
-    /// A column of the rows of a place that holds some.
-    pub fn at(&self, node: Node) -> &Column
-        requires { IsSome (held self.now node.0) }
-        ensures { held self.now node.0 ≡ Some result.now.values }
+    /// The buffer of the rows of a place that holds some.
+    pub fn at(&self, node: Node) -> &Buffer
+        requires { IsSome (rows_at self.now node.0) }
+        ensures { rows_at self.now node.0 ≡ Some (buffers.values_of result.now) }
     {
-        self.rows(node).column()
+        self.rows(node).buffer()
     }
 
     /// The rows of a place that holds some, not copied.
     pub fn share(&self, node: Node) -> Result<Rows<'f>, PlanError>
-        requires { IsSome (held self.now node.0) }
-        ensures ok { IfOk result (λ r. held self.now node.0 ≡ Some (values_of r)) }
+        requires { IsSome (rows_at self.now node.0) }
+        ensures ok { IfOk result (λ r. rows_at self.now node.0 ≡ Some (values_of r)) }
         ensures err { IfErr result (λ e. e ≡ PlanError.OutOfMemory) }
     {
         self.rows(node).share()
@@ -135,5 +135,13 @@ impl<'f> Table<'f> {
         ensures { self.new ≡ slice_set self.old node.0 (Some (values_of rows.entry)) }
     {
         self.places[node.0] = Some(rows);
+    }
+
+    /// The place holds nothing from now on.
+    pub fn clear(&mut self, node: Node)
+        requires { node.0 < length self.old }
+        ensures { self.new ≡ slice_set self.old node.0 None }
+    {
+        self.places[node.0] = None;
     }
 }

@@ -3,8 +3,8 @@
 use Rattle.std.specs.Prelude.{ℕ, ◌≡◌, List, map, Option, Some, option_and_then, slice_get}
 use Rattle.std.specs.List.{All}
 use Rattle.px_types.specs.declared.dtype.DataType.{DataType}
-use Rattle.px_types.specs.Columns.{IsColumn}
-use Rattle.px_types.specs.Rows.{TypedRows}
+use Rattle.px_semantics.specs.Columns.{IsColumn}
+use Rattle.px_semantics.specs.Rows.{TypedRows}
 
 -- the type that a kernel declares for inputs of these types, and the column that it answers for these inputs
 pub record Kernel : Type 0 where

@@ -3,8 +3,8 @@
 use Rattle.std.specs.Prelude.{ℕ, ℤ, Bool, List, [], ◌∷◌}
 use Rattle.px_types.specs.declared.dtype.DataType.{DataType}
 use Rattle.px_types.specs.declared.function.FunctionExpr.{FunctionExpr}
-use Rattle.px_types.specs.declared.kinds.CastOptions.{CastOptions}
-use Rattle.px_types.specs.declared.kinds.QuantileMethod.{QuantileMethod}
+use Rattle.px_types.specs.declared.type_parts.CastOptions.{CastOptions}
+use Rattle.px_types.specs.declared.type_parts.QuantileMethod.{QuantileMethod}
 use Rattle.px_types.specs.declared.operator.Operator.{Operator}
 use Rattle.px_expr.specs.declared.expr.Excluded.{Excluded}
 use Rattle.px_expr.specs.declared.literal.LiteralValue.{LiteralValue}

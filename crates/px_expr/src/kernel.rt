@@ -1,7 +1,7 @@
 //! Kernels: functions of the caller's over columns.
 ghost use Rattle.std.specs.Prelude.{◌≡◌, [], ◌∷◌, ◌++◌, ℕ, List, Option, map, option_map, length, slice_get, IfOk, OnOk, OnErr, Err};
 ghost use Rattle.px_types.specs.declared.dtype.DataType.{DataType};
-ghost use Rattle.px_types.specs.Rows.{TypedRows, Contents};
+ghost use Rattle.px_semantics.specs.Rows.{TypedRows, Contents};
 ghost use Rattle.px_expr.specs.Kernel.{Kernel, AnswersColumns, all_kernels, declared_at, answer_at};
 
 use px_column::Column;
@@ -25,7 +25,8 @@ pub trait ColumnsUdf: Drop {
     /// The answer for these inputs, whose lengths may differ. Its name means nothing. The only error is
     /// out of memory.
     fn call(&self, alloc: Global, inputs: &[Column]) -> Result<Option<Column>, AllocError>
-        ensures { IfOk result (λ column. option_map (λ (c : Contents). c.values) column ≡ answer self.now (map (λ (c : Contents). c.values) inputs.now)) };
+        ensures { IfOk result (λ column. option_map (λ (c : Contents). c.values) column
+            ≡ answer self.now (map (λ (c : Contents). c.values) inputs.now)) };
 
     /// For inputs that are columns the answer, where there is one, is a column.
     ghost answers_columns: { (kernel : Self) → AnswersColumns (answer kernel) };
@@ -43,7 +44,8 @@ fn call_boxed(
     alloc: Global,
     inputs: &[Column],
 ) -> Result<Option<Column>, AllocError>
-    ensures { IfOk result (λ column. option_map (λ (c : Contents). c.values) column ≡ answer kernel.now (map (λ (c : Contents). c.values) inputs.now)) }
+    ensures { IfOk result (λ column. option_map (λ (c : Contents). c.values) column
+        ≡ answer kernel.now (map (λ (c : Contents). c.values) inputs.now)) }
 {
     kernel.call(alloc, inputs)
 }
@@ -82,7 +84,8 @@ impl KernelList {
     /// was.
     pub fn try_push(&mut self, kernel: Box<dyn ColumnsUdf>) -> Result<(), PlanError>
         ensures ok { OnOk result (self.new.entries.items ≡ self.old.entries.items ++ kernel ∷ []) }
-        ensures err { OnErr result ((self.new.entries.items ≡ self.old.entries.items) × (result ≡ Err PlanError.OutOfMemory)) }
+        ensures err { OnErr result ((self.new.entries.items ≡ self.old.entries.items)
+            × (result ≡ Err PlanError.OutOfMemory)) }
     {
         self.entries.push(kernel)?;
         Ok(())
@@ -110,7 +113,8 @@ pub trait Kernels {
         kernel: usize,
         inputs: &[Column],
     ) -> Result<Option<Column>, AllocError>
-        ensures { IfOk result (λ column. option_map (λ (c : Contents). c.values) column ≡ answer_at (definitions self.now) kernel (map (λ (c : Contents). c.values) inputs.now)) };
+        ensures { IfOk result (λ column. option_map (λ (c : Contents). c.values) column
+            ≡ answer_at (definitions self.now) kernel (map (λ (c : Contents). c.values) inputs.now)) };
 }
 
 impl Kernels for KernelList {

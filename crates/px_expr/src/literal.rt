@@ -33,7 +33,7 @@ pub enum LiteralValue {
     },
     /// A whole column.
     Series(Column),
-    /// An integer whose type the node above it settles.
+    /// An integer whose type the node above it decides.
     Int(i128),
     /// A text that is a part of a longer one.
     StrCat(SmallStr),

@@ -3,16 +3,16 @@ ghost use Rattle.std.specs.Prelude.{◌^◌, ℤ, pos};
 ghost use Rattle.std.specs.Int.{w8, w16, w32, w64};
 ghost use Rattle.std.proofs.lemmas.Int.{SFits-int_wrap};
 ghost use Rattle.std.proofs.Common.{lit<};
-ghost use Rattle.px_types.specs.Residues.{residue_within};
+ghost use Rattle.px_types.proofs.Residues.{residue_within};
 ghost use Rattle.px_types.specs.declared.value_type.ValueType.TheVariants.{Int8, Int16, Int32, Int64, UInt8, UInt16, UInt32, UInt64};
-ghost use Rattle.px_integers.specs.Ranges.{signed_bits, unsigned_bits, signed_complement, unsigned_complement};
+ghost use Rattle.px_semantics.proofs.Ranges.{signed_bits, unsigned_bits, signed_complement, unsigned_complement};
 
-use crate::number::Number;
+use crate::integer::Integer;
 
-impl Number for i8 {
-    ghost number = { λ x. x };
+impl Integer for i8 {
+    ghost integer = { λ x. x };
 
-    ghost kind = { Int8 };
+    ghost value_type = { Int8 };
 
     ghost into_range = { λ z. SFits-int_wrap w8 z };
 
@@ -72,10 +72,10 @@ impl Number for i8 {
     }
 }
 
-impl Number for i16 {
-    ghost number = { λ x. x };
+impl Integer for i16 {
+    ghost integer = { λ x. x };
 
-    ghost kind = { Int16 };
+    ghost value_type = { Int16 };
 
     ghost into_range = { λ z. SFits-int_wrap w16 z };
 
@@ -135,10 +135,10 @@ impl Number for i16 {
     }
 }
 
-impl Number for i32 {
-    ghost number = { λ x. x };
+impl Integer for i32 {
+    ghost integer = { λ x. x };
 
-    ghost kind = { Int32 };
+    ghost value_type = { Int32 };
 
     ghost into_range = { λ z. SFits-int_wrap w32 z };
 
@@ -198,10 +198,10 @@ impl Number for i32 {
     }
 }
 
-impl Number for i64 {
-    ghost number = { λ x. x };
+impl Integer for i64 {
+    ghost integer = { λ x. x };
 
-    ghost kind = { Int64 };
+    ghost value_type = { Int64 };
 
     ghost into_range = { λ z. SFits-int_wrap w64 z };
 
@@ -261,10 +261,10 @@ impl Number for i64 {
     }
 }
 
-impl Number for u8 {
-    ghost number = { pos };
+impl Integer for u8 {
+    ghost integer = { pos };
 
-    ghost kind = { UInt8 };
+    ghost value_type = { UInt8 };
 
     ghost into_range = { λ z. residue_within z (2 ^ 8) (lit< tt) };
 
@@ -324,10 +324,10 @@ impl Number for u8 {
     }
 }
 
-impl Number for u16 {
-    ghost number = { pos };
+impl Integer for u16 {
+    ghost integer = { pos };
 
-    ghost kind = { UInt16 };
+    ghost value_type = { UInt16 };
 
     ghost into_range = { λ z. residue_within z (2 ^ 16) (lit< tt) };
 
@@ -387,10 +387,10 @@ impl Number for u16 {
     }
 }
 
-impl Number for u32 {
-    ghost number = { pos };
+impl Integer for u32 {
+    ghost integer = { pos };
 
-    ghost kind = { UInt32 };
+    ghost value_type = { UInt32 };
 
     ghost into_range = { λ z. residue_within z (2 ^ 32) (lit< tt) };
 
@@ -450,10 +450,10 @@ impl Number for u32 {
     }
 }
 
-impl Number for u64 {
-    ghost number = { pos };
+impl Integer for u64 {
+    ghost integer = { pos };
 
-    ghost kind = { UInt64 };
+    ghost value_type = { UInt64 };
 
     ghost into_range = { λ z. residue_within z (2 ^ 64) (lit< tt) };
 

@@ -1,41 +1,45 @@
--- Rows of casts, by their planes and their numbers.
-use Rattle.std.proofs.Common.{◌≡◌, ◌∙◌, ◌⊎◌, inl, inr, ◌&&◌, ◌||◌, ◌<◌, ◌≤◌, ◌+◌, ℕ, ℤ, pos, Bool, true, false, not, cond, List, [], ◌∷◌, map, length, sym, ap, subst, refl, Option, Some, None, is_some, is_none, option_map, option_and_then, get_or, replicate, drop, zero, suc, arith}
-use Rattle.std.specs.Prelude.{IsTrue, Result, Ok, Err, IfOk}
+-- Rows of casts, by their bitmaps and their numbers.
+use Rattle.std.proofs.Common.{◌≡◌, ◌∙◌, ◌⊎◌, inl, inr, ◌&&◌, ◌||◌, ◌<◌, ◌≤◌, ◌+◌, ℕ, ℤ, pos, Bool, true, false, not, cond, List, [], ◌∷◌, map, length, sym, ap, subst, refl, Some, None, is_some, is_none, option_map, option_and_then, get_or, replicate, drop, zero, suc, arith}
+use Rattle.std.specs.Prelude.{IsTrue, Result, Ok, Err, IfOk, IfErr}
 use Rattle.px_base.specs.Answer.{GivesOrMemory}
 use Rattle.std.specs.Bool.{MatchBool}
-use Rattle.std.specs.List.{AllWithin, count_by, range_with_len}
+use Rattle.std.specs.List.{AllWithin, range_with_len}
 use Rattle.std.proofs.lemmas.List.FromFn.{fill_by_all}
-use Rattle.px_rows.proofs.Planes.{maps}
+use Rattle.px_arrays.proofs.Bitmaps.{maps}
 use Rattle.std.specs.Simd.Lanes.{zip2, Each1}
 use Rattle.std.proofs.lemmas.Bool.Decides.{same_from_decides}
-use Rattle.std.proofs.lemmas.List.{length-map}
+use Rattle.std.proofs.lemmas.List.{length-map, length-replicate}
 use Rattle.std.proofs.lemmas.List.Sums.{sum_by-cons}
 use Rattle.std.proofs.lemmas.Simd.{length-zip2}
 use Rattle.px_base.specs.declared.error.PlanError.{PlanError}
 use Rattle.px_base.specs.declared.error.PlanError.TheVariants.{OutOfMemory, InvalidCast}
-use Rattle.px_types.proofs.CastLemmas.{holds_decides, none_lost, cast_gives, same_gives}
-use Rattle.px_types.specs.Arithmetic.{is_zero}
-use Rattle.px_types.specs.Casts.{in_type, as_integer, as_truth, cast_value, cast_row, is_lost, any_lost, cast_list, cast_rows, cast_to}
+use Rattle.px_semantics.proofs.CastLemmas.{holds_decides, none_lost, cast_gives, same_gives}
+use Rattle.px_semantics.specs.Arithmetic.{is_zero}
+use Rattle.px_semantics.specs.Casts.{as_integer, as_truth, cast_value, cast_row, is_lost, any_lost, cast_list, cast_rows, cast_to}
 use Rattle.px_types.specs.Integers.{into, InRange}
-use Rattle.px_types.specs.Logic.{is_true}
-use Rattle.px_types.specs.Rows.{Datum, Truth, Text, Integer, Row, TypedRows, entry, truth_entry, null_count, IsRowOf}
+use Rattle.px_semantics.specs.Logic.{is_true}
+use Rattle.px_semantics.specs.Rows.{Datum, Truth, Text, Integer, Row, TypedRows, entry, boolean_entry, null_count, IsRowOf}
 use Rattle.px_types.specs.ValueTypes.{holds, value_type_of}
 use Rattle.px_types.specs.declared.dtype.DataType.{DataType}
-use Rattle.px_types.specs.declared.kinds.CastOptions.{CastOptions}
-use Rattle.px_types.specs.declared.kinds.CastOptions.TheVariants.{Strict, NonStrict, Overflowing}
+use Rattle.px_types.specs.declared.type_parts.CastOptions.{CastOptions}
+use Rattle.px_types.specs.declared.type_parts.CastOptions.TheVariants.{Strict, NonStrict, Overflowing}
 use Rattle.px_types.specs.declared.value_type.ValueType.{ValueType}
-use Rattle.px_types.specs.declared.value_type.ValueType.TheVariants.{Boolean}
-use Rattle.px_kernels.specs.Casting.{held_number, held_bits, any_bit_lost, CastsAll}
-use Rattle.px_column.proofs.Joining.{of_kind}
+use Rattle.px_types.specs.declared.value_type.ValueType.TheVariants as value_type
+use Rattle.px_column.specs.ColumnOf.{type_of, rows_of}
+use Rattle.px_column.specs.declared.buffer.Buffer.{Buffer}
+use Rattle.px_column.specs.declared.buffer.Buffer.TheVariants as buffer
+use Rattle.px_kernels.specs.Buffers.{values_of}
+use Rattle.px_kernels.specs.Casting.{number_in_range, bits_in_range, any_bit_lost, CastsAll}
+use Rattle.px_semantics.proofs.Joining.{of_type}
 
-pub held_test : (k : ValueType) (z w : ℤ) (o : Bool) → w ≡ z → (IsTrue o → InRange k w) → (InRange k w → IsTrue o) → o ≡ holds k z
-held_test k z w o e to from = same_from_decides o (holds k w) (to, from) (holds_decides k w) ∙ ap (holds k) e
+pub in_range_test : (k : ValueType) (z w : ℤ) (o : Bool) → w ≡ z → (IsTrue o → InRange k w) → (InRange k w → IsTrue o) → o ≡ holds k z
+in_range_test k z w o e to from = same_from_decides o (holds k w) (to, from) (holds_decides k w) ∙ ap (holds k) e
 
-pub held_some : (k : ValueType) (z w y : ℤ) → w ≡ z → y ≡ w → InRange k w → y ≡ held_number k z
-held_some k z w y e p h = p ∙ sym (ap (λ b. cond b w (pos 0)) ((holds_decides k w).1 h)) ∙ ap (held_number k) e
+pub in_range_some : (k : ValueType) (z w y : ℤ) → w ≡ z → y ≡ w → InRange k w → y ≡ number_in_range k z
+in_range_some k z w y e p h = p ∙ sym (ap (λ b. cond b w (pos 0)) ((holds_decides k w).1 h)) ∙ ap (number_in_range k) e
 
-pub held_none : (k : ValueType) (z w y : ℤ) → w ≡ z → y ≡ pos 0 → (InRange k w → ⊥) → y ≡ held_number k z
-held_none k z w y e p h = p ∙ by (holds k w) refl ∙ ap (held_number k) e
+pub in_range_none : (k : ValueType) (z w y : ℤ) → w ≡ z → y ≡ pos 0 → (InRange k w → ⊥) → y ≡ number_in_range k z
+in_range_none k z w y e p h = p ∙ by (holds k w) refl ∙ ap (number_in_range k) e
   where
     by : (b : Bool) → holds k w ≡ b → pos 0 ≡ cond b w (pos 0)
     by true f = absurd (h ((holds_decides k w).0 f))
@@ -57,7 +61,7 @@ and_true true = refl
 and_true false = refl
 
 -- where the type holds all numbers, the valid places stay
-pub all_held : (k : ValueType) (us : List Bool) (zs : List ℤ) → map (holds k) zs ≡ replicate (length zs) true → length zs ≡ length us → us ≡ held_bits k us zs
+pub all_held : (k : ValueType) (us : List Bool) (zs : List ℤ) → map (holds k) zs ≡ replicate (length zs) true → length zs ≡ length us → us ≡ bits_in_range k us zs
 all_held k [] zs h l = refl
 all_held k (u ∷ us) [] h l = cc
 all_held k (u ∷ us) (z ∷ zs) h l =
@@ -67,17 +71,17 @@ all_held k (u ∷ us) (z ∷ zs) h l =
     let first : u && holds k z ≡ u = ap (λ b. u && b) here ∙ and_true u in
     cc
 
-pub held_long : (k : ValueType) (us : List Bool) (zs : List ℤ) → length us ≡ length zs → length (held_bits k us zs) ≡ length zs
-held_long k us zs h = length-zip2 (λ v h. v && h) us (map (holds k) zs) (h ∙ sym (length-map zs (holds k))) ∙ h
+pub in_range_long : (k : ValueType) (us : List Bool) (zs : List ℤ) → length us ≡ length zs → length (bits_in_range k us zs) ≡ length zs
+in_range_long k us zs h = length-zip2 (λ v h. v && h) us (map (holds k) zs) (h ∙ sym (length-map zs (holds k))) ∙ h
 
-held_in : (k : ValueType) (z : ℤ) (h : Bool) → holds k z ≡ h → InRange k (pos 0) → InRange k (cond h z (pos 0))
-held_in k z true e p = (holds_decides k z).0 e
-held_in k z false e p = p
+in_range_in : (k : ValueType) (z : ℤ) (h : Bool) → holds k z ≡ h → InRange k (pos 0) → InRange k (cond h z (pos 0))
+in_range_in k z true e p = (holds_decides k z).0 e
+in_range_in k z false e p = p
 
 -- numbers that the type holds, and 0, are the type's
-pub held_inside : (k : ValueType) (zs : List ℤ) → InRange k (pos 0) → Each1 (InRange k) (map (held_number k) zs)
-held_inside k [] p = tt
-held_inside k (z ∷ zs) p = (held_in k z (holds k z) refl p, held_inside k zs p)
+pub in_range_inside : (k : ValueType) (zs : List ℤ) → InRange k (pos 0) → Each1 (InRange k) (map (number_in_range k) zs)
+in_range_inside k [] p = tt
+in_range_inside k (z ∷ zs) p = (in_range_in k z (holds k z) refl p, in_range_inside k zs p)
 
 pub each_inside : (P : ℤ → Type 0) (r : ℤ → ℤ) → ((z : ℤ) → P (r z)) → (zs : List ℤ) → Each1 P (map r zs)
 each_inside P r h [] = tt
@@ -87,16 +91,16 @@ pub each_bit_inside : (P : ℤ → Type 0) (r : Bool → ℤ) → ((b : Bool) �
 each_bit_inside P r h [] = tt
 each_bit_inside P r h (b ∷ bs) = (h b, each_bit_inside P r h bs)
 
-held_entry : (h : Bool) (z : ℤ) → entry (true && h) (cond h z (pos 0)) ≡ cond h (Some (Integer z)) None
-held_entry true z = refl
-held_entry false z = refl
+in_range_entry : (h : Bool) (z : ℤ) → entry (true && h) (cond h z (pos 0)) ≡ cond h (Some (Integer z)) None
+in_range_entry true z = refl
+in_range_entry false z = refl
 
-known_row : (k : ValueType) (v : Bool) (z : ℤ) → entry (v && holds k z) (held_number k z) ≡ cast_row (as_integer NonStrict k) (entry v z)
-known_row k true z = held_entry (holds k z) z
+known_row : (k : ValueType) (v : Bool) (z : ℤ) → entry (v && holds k z) (number_in_range k z) ≡ cast_row (as_integer NonStrict k) (entry v z)
+known_row k true z = in_range_entry (holds k z) z
 known_row k false z = refl
 
 -- the numbers that the type holds
-pub known_entries : (k : ValueType) (us : List Bool) (zs : List ℤ) → zip2 entry (held_bits k us zs) (map (held_number k) zs) ≡ map (cast_row (as_integer NonStrict k)) (zip2 entry us zs)
+pub known_entries : (k : ValueType) (us : List Bool) (zs : List ℤ) → zip2 entry (bits_in_range k us zs) (map (number_in_range k) zs) ≡ map (cast_row (as_integer NonStrict k)) (zip2 entry us zs)
 known_entries k [] zs = refl
 known_entries k (u ∷ us) [] = refl
 known_entries k (u ∷ us) (z ∷ zs) = let here = known_row k u z in let rest = known_entries k us zs in cc
@@ -205,30 +209,30 @@ pub bits_by_place : {A : Type 0} (f : Bool → A) (bits : List Bool) (n : ℕ) �
 bits_by_place f bits n e =
     sym (maps (λ i. get_or bits i false) f (range_with_len 0 n)) ∙ ap (map f) (sym (fill_by_all (λ i. get_or bits i false) bits n false (sym e) (λ k h. refl)))
 
-truth_number : (options : CastOptions) (k : ValueType) (row : Row) → IsRowOf Boolean row → entry (is_some row) (cond (is_true row) (pos 1) (pos 0)) ≡ cast_row (as_integer options k) row
-truth_number options k (Some (Truth true)) h = refl
-truth_number options k (Some (Truth false)) h = refl
-truth_number options k (Some (Text s)) h = absurd h
-truth_number options k (Some (Integer z)) h = absurd h
-truth_number options k None h = refl
+boolean_as_integer : (options : CastOptions) (k : ValueType) (row : Row) → IsRowOf value_type.Boolean row → entry (is_some row) (cond (is_true row) (pos 1) (pos 0)) ≡ cast_row (as_integer options k) row
+boolean_as_integer options k (Some (Truth true)) h = refl
+boolean_as_integer options k (Some (Truth false)) h = refl
+boolean_as_integer options k (Some (Text s)) h = absurd h
+boolean_as_integer options k (Some (Integer z)) h = absurd h
+boolean_as_integer options k None h = refl
 
-truth_kept : (options : CastOptions) (k : ValueType) (row : Row) → IsRowOf Boolean row → is_lost (as_integer options k) row ≡ false
+truth_kept : (options : CastOptions) (k : ValueType) (row : Row) → IsRowOf value_type.Boolean row → is_lost (as_integer options k) row ≡ false
 truth_kept options k (Some (Truth t)) h = refl
 truth_kept options k (Some (Text s)) h = absurd h
 truth_kept options k (Some (Integer z)) h = absurd h
 truth_kept options k None h = refl
 
--- truth values as 0 and 1
-pub truths_cast : (options : CastOptions) (k : ValueType) (rows : List Row) → Each1 (IsRowOf Boolean) rows
+-- Booleans as 0 and 1
+pub truths_cast : (options : CastOptions) (k : ValueType) (rows : List Row) → Each1 (IsRowOf value_type.Boolean) rows
     → CastsAll (as_integer options k) rows (zip2 entry (map is_some rows) (map (λ b. cond b (pos 1) (pos 0)) (map is_true rows)))
 truths_cast options k [] h = (refl, refl)
 truths_cast options k (row ∷ rows) h =
-    let here = truth_number options k row h.0 in
+    let here = boolean_as_integer options k row h.0 in
     let rest = truths_cast options k rows h.1 in
     let more = rest.0 in
     (cc, none_lost (as_integer options k) row rows (truth_kept options k row h.0) rest.1)
 
-nonzero_row : (v : Bool) (z : ℤ) → truth_entry (not (is_zero z)) v ≡ cast_row as_truth (entry v z)
+nonzero_row : (v : Bool) (z : ℤ) → boolean_entry (not (is_zero z)) v ≡ cast_row as_truth (entry v z)
 nonzero_row true z = refl
 nonzero_row false z = refl
 
@@ -236,14 +240,14 @@ nonzero_kept : (v : Bool) (z : ℤ) → is_lost as_truth (entry v z) ≡ false
 nonzero_kept true z = refl
 nonzero_kept false z = refl
 
--- numbers as truth values
-pub numbers_cast : (us : List Bool) (zs : List ℤ) → CastsAll as_truth (zip2 entry us zs) (zip2 truth_entry (map (λ z. not (is_zero z)) zs) us)
-numbers_cast [] [] = (refl, refl)
-numbers_cast [] (z ∷ zs) = (refl, refl)
-numbers_cast (u ∷ us) [] = (refl, refl)
-numbers_cast (u ∷ us) (z ∷ zs) =
+-- numbers as Booleans
+pub integers_cast : (us : List Bool) (zs : List ℤ) → CastsAll as_truth (zip2 entry us zs) (zip2 boolean_entry (map (λ z. not (is_zero z)) zs) us)
+integers_cast [] [] = (refl, refl)
+integers_cast [] (z ∷ zs) = (refl, refl)
+integers_cast (u ∷ us) [] = (refl, refl)
+integers_cast (u ∷ us) (z ∷ zs) =
     let here = nonzero_row u z in
-    let rest = numbers_cast us zs in
+    let rest = integers_cast us zs in
     let more = rest.0 in
     (cc, none_lost as_truth (entry u z) (zip2 entry us zs) (nonzero_kept u z) rest.1)
 
@@ -256,7 +260,7 @@ pub nulls_cast : (f : Datum → Row) (n : ℕ) → CastsAll f (replicate n None)
 nulls_cast f zero = (refl, refl)
 nulls_cast f (suc n) = let rest = nulls_cast f n in (ap (λ l. None ∷ l) rest.0, rest.1)
 
--- an answer for which a fact is known, or want of memory
+-- an answer for which a fact is known, or out of memory
 pub gives_ok : {A : Type 0} (r : Result A PlanError) (a : A) (P : A → Type 0) → GivesOrMemory r a → P a → IfOk r P
 gives_ok (Ok x) a P e p = subst P (sym e) p
 gives_ok (Err x) a P e p = tt
@@ -265,8 +269,8 @@ pub nulls_at : (f : Datum → Row) (n : ℕ) (rows : List Row) → rows ≡ repl
 nulls_at f n rows e = casts_at f (replicate n None) rows (replicate n None) (replicate n None) (sym e) refl (nulls_cast f n)
 
 -- rows of the target type
-pub same_kind : (options : CastOptions) (k to : ValueType) (rows : List Row) → k ≡ to → Each1 (IsRowOf k) rows → Some rows ≡ cast_list options (cast_value options to) rows
-same_kind options k to rows e h = same_gives options k rows h ∙ ap (λ j. cast_list options (cast_value options j) rows) e
+pub same_type : (options : CastOptions) (k to : ValueType) (rows : List Row) → k ≡ to → Each1 (IsRowOf k) rows → Some rows ≡ cast_list options (cast_value options to) rows
+same_type options k to rows e h = same_gives options k rows h ∙ ap (λ j. cast_list options (cast_value options j) rows) e
 
 -- rows of which none is lost, in any cast
 pub all_cast : (options : CastOptions) (f : Datum → Row) (rows others : List Row) → CastsAll f rows others → Some others ≡ cast_list options f rows
@@ -320,11 +324,43 @@ refused e f (inl h) = inl h
 refused e f (inr h) = inr (h.0, f h.1)
 
 pub column_gives : (options : CastOptions) (to : DataType) (a : TypedRows) (k : ValueType) (rows : List Row) → value_type_of to ≡ Some k
-    → Some rows ≡ cast_list options (cast_value options k) a.rows → Some (of_kind k rows) ≡ cast_to options to a
+    → Some rows ≡ cast_list options (cast_value options k) a.rows → Some (of_type k rows) ≡ cast_to options to a
 unfolding cast_rows
-column_gives options to a k rows e h = ap (option_map (of_kind k)) h ∙ sym (ap (option_and_then (λ k. cast_rows options k a)) e)
+column_gives options to a k rows e h = ap (option_map (of_type k)) h ∙ sym (ap (option_and_then (λ k. cast_rows options k a)) e)
 
 pub column_none : (options : CastOptions) (to : DataType) (a : TypedRows) (k : ValueType) → value_type_of to ≡ Some k
     → cast_list options (cast_value options k) a.rows ≡ None → cast_to options to a ≡ None
 unfolding cast_rows
-column_none options to a k e h = ap (option_and_then (λ k. cast_rows options k a)) e ∙ ap (option_map (of_kind k)) h
+column_none options to a k e h = ap (option_and_then (λ k. cast_rows options k a)) e ∙ ap (option_map (of_type k)) h
+
+pub cast_answer : (options : CastOptions) (to : DataType) (a : TypedRows) (k : ValueType) (r : Result Buffer PlanError) → value_type_of to ≡ Some k
+    → IfOk r (λ c. type_of c ≡ k) → IfOk r (λ c. Some (rows_of c) ≡ cast_list options (cast_value options k) a.rows) → IfOk r (λ c. Some (values_of c) ≡ cast_to options to a)
+cast_answer options to a k (Ok c) v h e = ap (λ j. Some (of_type j (rows_of c))) h ∙ column_gives options to a k (rows_of c) v e
+cast_answer options to a k (Err x) v h e = tt
+
+pub cast_refusal : (options : CastOptions) (to : DataType) (a : TypedRows) (k : ValueType) (r : Result Buffer PlanError) → value_type_of to ≡ Some k
+    → IfErr r (λ e. (e ≡ OutOfMemory) ⊎ ((e ≡ InvalidCast) × (cast_list options (cast_value options k) a.rows ≡ None)))
+    → IfErr r (λ e. (e ≡ OutOfMemory) ⊎ ((e ≡ InvalidCast) × (cast_to options to a ≡ None)))
+cast_refusal options to a k (Ok c) v h = tt
+cast_refusal options to a k (Err x) v h = refused x (column_none options to a k v) h
+
+-- a buffer of the type Null has nulls alone
+null_rows : (b : Buffer) → type_of b ≡ value_type.Null → rows_of b ≡ replicate (length (rows_of b)) None
+null_rows (buffer.Null len) h = let none : Row = None in ap (λ n. replicate n None) (sym (length-replicate len none))
+null_rows (buffer.Boolean rows) h = cc
+null_rows (buffer.Text rows) h = cc
+null_rows (buffer.Int8 rows) h = cc
+null_rows (buffer.Int16 rows) h = cc
+null_rows (buffer.Int32 rows) h = cc
+null_rows (buffer.Int64 rows) h = cc
+null_rows (buffer.UInt8 rows) h = cc
+null_rows (buffer.UInt16 rows) h = cc
+null_rows (buffer.UInt32 rows) h = cc
+null_rows (buffer.UInt64 rows) h = cc
+
+-- nulls as strings
+pub null_texts_gives : (options : CastOptions) (b : Buffer) → type_of b ≡ value_type.Null → (rows : List Row) (n : ℕ) → rows ≡ replicate n None → n ≡ length (rows_of b)
+    → Some rows ≡ cast_list options (cast_value options value_type.String) (rows_of b)
+null_texts_gives options b h rows n e l =
+    let same : rows_of b ≡ replicate n None = null_rows b h ∙ ap (λ m. replicate m None) (sym l) in
+    ap Some e ∙ all_cast options (cast_value options value_type.String) (rows_of b) (replicate n None) (nulls_at (cast_value options value_type.String) n (rows_of b) same)

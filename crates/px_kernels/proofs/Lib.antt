@@ -1,7 +1,8 @@
+pub mod BroadcastRows
 pub mod TestRows
 pub mod KernelRows
-pub mod Opposites
-pub mod ChoiceRows
+pub mod Negations
+pub mod SelectionRows
 pub mod DividedRows
 pub mod CastRows
 pub mod FormRows

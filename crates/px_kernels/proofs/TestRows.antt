@@ -3,23 +3,23 @@ use Rattle.std.proofs.Common.{◌≡◌, ◌∙◌, ◌&&◌, ◌||◌, ℕ, ℤ
 use Rattle.std.specs.Simd.Lanes.{zip2, Each1}
 use Rattle.std.proofs.lemmas.Simd.{length-zip2}
 use Rattle.std.proofs.lemmas.List.{length-map, length-replicate}
-use Rattle.px_types.specs.Comparisons.{equal, less, both_pass, test_row, match_rows}
-use Rattle.px_types.specs.Logic.{is_true, not_row}
-use Rattle.px_types.specs.Rows.{Row, Datum, Truth, Text, Integer, entry, truth_entry, IsRowOf}
+use Rattle.px_semantics.specs.Comparisons.{equal, less, both_pass, test_row, match_rows}
+use Rattle.px_semantics.specs.Logic.{is_true, not_row}
+use Rattle.px_semantics.specs.Rows.{Row, Datum, Truth, Text, Integer, entry, boolean_entry, IsRowOf}
 use Rattle.px_types.specs.declared.value_type.ValueType.TheVariants.{Boolean}
-use Rattle.px_rows.specs.BitsOf.{certain}
-use Rattle.px_column.proofs.Joining.{zip2_flip}
+use Rattle.px_arrays.specs.BitmapOf.{non_null}
+use Rattle.px_semantics.proofs.Joining.{zip2_flip}
 use Rattle.px_kernels.specs.Matches.{match_row, mismatch_row}
 
-test_entry : (f : Datum → Datum → Bool) (u v : Bool) (x y : ℤ) → truth_entry (f (Integer x) (Integer y)) (u && v) ≡ test_row f (entry u x) (entry v y)
+test_entry : (f : Datum → Datum → Bool) (u v : Bool) (x y : ℤ) → boolean_entry (f (Integer x) (Integer y)) (u && v) ≡ test_row f (entry u x) (entry v y)
 test_entry f true true x y = refl
 test_entry f true false x y = refl
 test_entry f false true x y = refl
 test_entry f false false x y = refl
 
--- a test row by row: the planes and the numbers apart
+-- a test row by row: the bitmaps and the numbers apart
 pub test_entries : (f : Datum → Datum → Bool) (us vs : List Bool) (xs ys : List ℤ)
-    → zip2 truth_entry (zip2 (λ x y. f (Integer x) (Integer y)) xs ys) (zip2 (λ u v. u && v) us vs) ≡ zip2 (test_row f) (zip2 entry us xs) (zip2 entry vs ys)
+    → zip2 boolean_entry (zip2 (λ x y. f (Integer x) (Integer y)) xs ys) (zip2 (λ u v. u && v) us vs) ≡ zip2 (test_row f) (zip2 entry us xs) (zip2 entry vs ys)
 test_entries f [] vs [] ys = refl
 test_entries f (u ∷ us) vs [] ys = refl
 test_entries f [] vs (x ∷ xs) [] = refl
@@ -31,13 +31,13 @@ test_entries f (u ∷ us) (v ∷ vs) (x ∷ xs) (y ∷ ys) = let here = test_ent
 
 -- a test of rows, by what passes and by what is there
 pub pass_entries : (f : Datum → Datum → Bool) (xs ys : List Row)
-    → zip2 truth_entry (zip2 (both_pass f) xs ys) (zip2 (λ u v. u && v) (map is_some xs) (map is_some ys)) ≡ zip2 (test_row f) xs ys
+    → zip2 boolean_entry (zip2 (both_pass f) xs ys) (zip2 (λ u v. u && v) (map is_some xs) (map is_some ys)) ≡ zip2 (test_row f) xs ys
 pass_entries f [] ys = refl
 pass_entries f (x ∷ xs) [] = refl
 pass_entries f (x ∷ xs) (y ∷ ys) = ap (λ l. test_row f x y ∷ l) (pass_entries f xs ys)
 
 truth_test : (g : Bool → Bool → Bool) (f : Datum → Datum → Bool) → ((p q : Bool) → g p q ≡ f (Truth p) (Truth q)) → (x y : Row) → IsRowOf Boolean x → IsRowOf Boolean y
-    → truth_entry (g (is_true x) (is_true y)) (is_some x && is_some y) ≡ test_row f x y
+    → boolean_entry (g (is_true x) (is_true y)) (is_some x && is_some y) ≡ test_row f x y
 truth_test g f h (Some (Truth true)) (Some (Truth true)) p q = ap (λ t. Some (Truth t)) (h true true)
 truth_test g f h (Some (Truth true)) (Some (Truth false)) p q = ap (λ t. Some (Truth t)) (h true false)
 truth_test g f h (Some (Truth false)) (Some (Truth true)) p q = ap (λ t. Some (Truth t)) (h false true)
@@ -49,9 +49,9 @@ truth_test g f h (Some (Integer z)) y p q = absurd p
 truth_test g f h (Some (Truth t)) (Some (Text s)) p q = absurd q
 truth_test g f h (Some (Truth t)) (Some (Integer z)) p q = absurd q
 
--- a test of truth values on their planes
+-- a test of Booleans on their bitmaps
 pub truth_tests : (g : Bool → Bool → Bool) (f : Datum → Datum → Bool) → ((p q : Bool) → g p q ≡ f (Truth p) (Truth q)) → (xs ys : List Row) → Each1 (IsRowOf Boolean) xs → Each1 (IsRowOf Boolean) ys
-    → zip2 truth_entry (zip2 g (map is_true xs) (map is_true ys)) (zip2 (λ u v. u && v) (map is_some xs) (map is_some ys)) ≡ zip2 (test_row f) xs ys
+    → zip2 boolean_entry (zip2 g (map is_true xs) (map is_true ys)) (zip2 (λ u v. u && v) (map is_some xs) (map is_some ys)) ≡ zip2 (test_row f) xs ys
 truth_tests g f h [] ys p q = refl
 truth_tests g f h (x ∷ xs) [] p q = refl
 truth_tests g f h (x ∷ xs) (y ∷ ys) p q = let here = truth_test g f h x y p.0 q.0 in let rest = truth_tests g f h xs ys p.1 q.1 in cc
@@ -101,7 +101,7 @@ not_test f (Some x) None = refl
 not_test f None (Some y) = refl
 not_test f None None = refl
 
--- the opposite of a test
+-- the negation of a test
 pub not_tests : (f : Datum → Datum → Bool) (xs ys : List Row) → map not_row (zip2 (test_row f) xs ys) ≡ zip2 (test_row (λ a b. not (f a b))) xs ys
 not_tests f xs ys = map_zip2 not_row (test_row f) xs ys ∙ zip2_same (λ x y. not_row (test_row f x y)) (test_row (λ a b. not (f a b))) (not_test f) xs ys
 
@@ -127,7 +127,7 @@ match_flag None None = refl
 
 -- both null, or both equal values
 pub match_flags : (xs ys : List Row)
-    → map certain (zip2 (λ a b. a || b) (map is_true (zip2 (test_row equal) xs ys)) (map not (zip2 (λ a b. a || b) (map is_some xs) (map is_some ys)))) ≡ zip2 match_row xs ys
+    → map non_null (zip2 (λ a b. a || b) (map is_true (zip2 (test_row equal) xs ys)) (map not (zip2 (λ a b. a || b) (map is_some xs) (map is_some ys)))) ≡ zip2 match_row xs ys
 match_flags [] ys = refl
 match_flags (x ∷ xs) [] = refl
 match_flags (x ∷ xs) (y ∷ ys) = let here = match_flag x y in let rest = match_flags xs ys in cc
@@ -138,12 +138,12 @@ match_lengths xs ys h =
     length-map (zip2 (test_row equal) xs ys) is_true ∙ length-zip2 (test_row equal) xs ys h
     ∙ sym (length-map (zip2 (λ a b. a || b) (map is_some xs) (map is_some ys)) not ∙ length-zip2 (λ a b. a || b) (map is_some xs) (map is_some ys) (length-map xs is_some ∙ h ∙ sym (length-map ys is_some)) ∙ length-map xs is_some)
 
--- the opposite of a match
+-- the negation of a match
 pub not_matches : (xs ys : List Row) → map not_row (zip2 match_row xs ys) ≡ zip2 mismatch_row xs ys
 not_matches xs ys = map_zip2 not_row match_row xs ys ∙ zip2_same (λ x y. not_row (match_row x y)) mismatch_row (λ x y. not_truth (match_rows x y)) xs ys
 
 -- nulls are compared to nulls
-pub null_entries : (n : ℕ) → zip2 truth_entry (replicate n false) (replicate n false) ≡ replicate n None
+pub null_entries : (n : ℕ) → zip2 boolean_entry (replicate n false) (replicate n false) ≡ replicate n None
 null_entries zero = refl
 null_entries (suc n) = ap (λ l. None ∷ l) (null_entries n)
 

@@ -1,5 +1,6 @@
+pub mod Buffers
 pub mod Matches
-pub mod Kinds
-pub mod Picks
+pub mod OperandTypes
+pub mod SelectedPlaces
 pub mod Casting
 pub mod FusedPlaces

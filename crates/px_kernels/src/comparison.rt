@@ -1,74 +1,58 @@
-//! The eight comparisons of columns.
+//! The eight comparisons of buffers and of columns.
 ghost use Rattle.std.specs.Prelude.{◌≡◌, ◌⊎◌, length, replicate, Some, None, not, IfOk, IfErr};
 ghost use Rattle.std.specs.Simd.Lanes.{zip2};
-ghost use Rattle.px_types.specs.Comparisons.{less, equal, test_row, compare_row, compare_rows, IsComparison};
-ghost use Rattle.px_types.specs.Rows.{row_by_row};
-ghost use Rattle.px_column.specs.ColumnOf.{kind_of, rows_of};
+ghost use Rattle.px_semantics.specs.Comparisons.{less, equal, test_row, compare_row, compare_rows, IsComparison};
+ghost use Rattle.px_column.specs.ColumnOf.{type_of, rows_of};
+ghost use Rattle.px_kernels.specs.Buffers.{values_of};
 ghost use Rattle.px_kernels.specs.Matches.{match_row, mismatch_row};
 
-use crate::row_tests::{Less, Same, number_tests, text_tests, truth_less, truth_same};
-use px_column::{Buffer, Column, stretch};
-use px_rows::{Bits, Truths};
+use crate::arms::integers;
+use crate::lengths::{broadcast, wide_or};
+use crate::row_tests::{Less, Same, boolean_equal, boolean_less, integer_tests, string_tests};
+use px_arrays::{Bitmap, BooleanArray};
+use px_column::{Buffer, Column, join_lengths};
 use px_types::{Operator, PlanError};
 use std::alloc::{AllocError, Global};
 
 /// So many nulls.
-pub fn null_truths(alloc: Global, len: u32) -> Result<Truths, AllocError>
+pub fn null_booleans(alloc: Global, len: u32) -> Result<BooleanArray, AllocError>
     ensures { IfOk result (λ r. r ≡ replicate len None) }
 {
-    let flags = Bits::filled(alloc, len as usize, false)?;
+    let flags = Bitmap::filled(alloc, len as usize, false)?;
     let valid = flags.try_clone(alloc)?;
-    Truths::masked(alloc, &flags, valid)
+    BooleanArray::masked(alloc, &flags, valid)
 }
 
 /// Row by row whether the first is less, null where one is null.
-fn less_rows(alloc: Global, a: &Buffer, b: &Buffer) -> Result<Truths, AllocError>
-    requires same { kind_of a.now ≡ kind_of b.now }
-    requires long { length (rows_of a.now) ≡ length (rows_of b.now) }
+fn less_rows(alloc: Global, a: &Buffer, b: &Buffer) -> Result<BooleanArray, AllocError>
+    requires same { type_of a.now ≡ type_of b.now }
+    requires same_length { length (rows_of a.now) ≡ length (rows_of b.now) }
     ensures { IfOk result (λ r. r ≡ zip2 (test_row less) (rows_of a.now) (rows_of b.now)) }
 {
-    match (a, b) {
-        (Buffer::Null(len), Buffer::Null(_)) => null_truths(alloc, *len),
-        (Buffer::Boolean(a), Buffer::Boolean(b)) => truth_less(alloc, a, b),
-        (Buffer::Text(a), Buffer::Text(b)) => text_tests::<Less>(alloc, a, b),
-        (Buffer::Int8(a), Buffer::Int8(b)) => number_tests::<i8, Less>(alloc, a, b),
-        (Buffer::Int16(a), Buffer::Int16(b)) => number_tests::<i16, Less>(alloc, a, b),
-        (Buffer::Int32(a), Buffer::Int32(b)) => number_tests::<i32, Less>(alloc, a, b),
-        (Buffer::Int64(a), Buffer::Int64(b)) => number_tests::<i64, Less>(alloc, a, b),
-        (Buffer::UInt8(a), Buffer::UInt8(b)) => number_tests::<u8, Less>(alloc, a, b),
-        (Buffer::UInt16(a), Buffer::UInt16(b)) => number_tests::<u16, Less>(alloc, a, b),
-        (Buffer::UInt32(a), Buffer::UInt32(b)) => number_tests::<u32, Less>(alloc, a, b),
-        (Buffer::UInt64(a), Buffer::UInt64(b)) => number_tests::<u64, Less>(alloc, a, b),
-        _ => unreachable!(),
-    }
+    integers!((a, b) {
+        (Buffer::Null(len), Buffer::Null(_)) => null_booleans(alloc, *len),
+        (Buffer::Boolean(a), Buffer::Boolean(b)) => boolean_less(alloc, a, b),
+        (Buffer::Text(a), Buffer::Text(b)) => string_tests::<Less>(alloc, a, b),
+    } => integer_tests::<_, Less>(alloc, a, b))
 }
 
 /// Row by row whether the two are equal, null where one is null.
-fn same_rows(alloc: Global, a: &Buffer, b: &Buffer) -> Result<Truths, AllocError>
-    requires same { kind_of a.now ≡ kind_of b.now }
-    requires long { length (rows_of a.now) ≡ length (rows_of b.now) }
+fn same_rows(alloc: Global, a: &Buffer, b: &Buffer) -> Result<BooleanArray, AllocError>
+    requires same { type_of a.now ≡ type_of b.now }
+    requires same_length { length (rows_of a.now) ≡ length (rows_of b.now) }
     ensures { IfOk result (λ r. r ≡ zip2 (test_row equal) (rows_of a.now) (rows_of b.now)) }
 {
-    match (a, b) {
-        (Buffer::Null(len), Buffer::Null(_)) => null_truths(alloc, *len),
-        (Buffer::Boolean(a), Buffer::Boolean(b)) => truth_same(alloc, a, b),
-        (Buffer::Text(a), Buffer::Text(b)) => text_tests::<Same>(alloc, a, b),
-        (Buffer::Int8(a), Buffer::Int8(b)) => number_tests::<i8, Same>(alloc, a, b),
-        (Buffer::Int16(a), Buffer::Int16(b)) => number_tests::<i16, Same>(alloc, a, b),
-        (Buffer::Int32(a), Buffer::Int32(b)) => number_tests::<i32, Same>(alloc, a, b),
-        (Buffer::Int64(a), Buffer::Int64(b)) => number_tests::<i64, Same>(alloc, a, b),
-        (Buffer::UInt8(a), Buffer::UInt8(b)) => number_tests::<u8, Same>(alloc, a, b),
-        (Buffer::UInt16(a), Buffer::UInt16(b)) => number_tests::<u16, Same>(alloc, a, b),
-        (Buffer::UInt32(a), Buffer::UInt32(b)) => number_tests::<u32, Same>(alloc, a, b),
-        (Buffer::UInt64(a), Buffer::UInt64(b)) => number_tests::<u64, Same>(alloc, a, b),
-        _ => unreachable!(),
-    }
+    integers!((a, b) {
+        (Buffer::Null(len), Buffer::Null(_)) => null_booleans(alloc, *len),
+        (Buffer::Boolean(a), Buffer::Boolean(b)) => boolean_equal(alloc, a, b),
+        (Buffer::Text(a), Buffer::Text(b)) => string_tests::<Same>(alloc, a, b),
+    } => integer_tests::<_, Same>(alloc, a, b))
 }
 
 /// Row by row whether both are null, or both are equal values.
-fn matches(alloc: Global, a: &Buffer, b: &Buffer) -> Result<Truths, AllocError>
-    requires same { kind_of a.now ≡ kind_of b.now }
-    requires long { length (rows_of a.now) ≡ length (rows_of b.now) }
+fn matches(alloc: Global, a: &Buffer, b: &Buffer) -> Result<BooleanArray, AllocError>
+    requires same { type_of a.now ≡ type_of b.now }
+    requires same_length { length (rows_of a.now) ≡ length (rows_of b.now) }
     ensures { IfOk result (λ r. r ≡ zip2 match_row (rows_of a.now) (rows_of b.now)) }
 {
     let same = same_rows(alloc, a, b)?;
@@ -77,13 +61,13 @@ fn matches(alloc: Global, a: &Buffer, b: &Buffer) -> Result<Truths, AllocError>
     let either = mine.or(alloc, &others)?;
     let neither = either.not(alloc)?;
     let flags = same.truth().or(alloc, &neither)?;
-    Truths::certain(alloc, flags)
+    BooleanArray::non_null(alloc, flags)
 }
 
 /// Row by row whether the two differ, null where one is null.
-fn differ_rows(alloc: Global, a: &Buffer, b: &Buffer) -> Result<Truths, AllocError>
-    requires same { kind_of a.now ≡ kind_of b.now }
-    requires long { length (rows_of a.now) ≡ length (rows_of b.now) }
+fn differ_rows(alloc: Global, a: &Buffer, b: &Buffer) -> Result<BooleanArray, AllocError>
+    requires same { type_of a.now ≡ type_of b.now }
+    requires same_length { length (rows_of a.now) ≡ length (rows_of b.now) }
     ensures { IfOk result (λ r. r ≡ zip2 (test_row (λ x y. not (equal x y))) (rows_of a.now) (rows_of b.now)) }
 {
     let same = same_rows(alloc, a, b)?;
@@ -91,19 +75,19 @@ fn differ_rows(alloc: Global, a: &Buffer, b: &Buffer) -> Result<Truths, AllocErr
 }
 
 /// Row by row whether the first is not less, null where one is null.
-fn not_less_rows(alloc: Global, a: &Buffer, b: &Buffer) -> Result<Truths, AllocError>
-    requires same { kind_of a.now ≡ kind_of b.now }
-    requires long { length (rows_of a.now) ≡ length (rows_of b.now) }
+fn not_less_rows(alloc: Global, a: &Buffer, b: &Buffer) -> Result<BooleanArray, AllocError>
+    requires same { type_of a.now ≡ type_of b.now }
+    requires same_length { length (rows_of a.now) ≡ length (rows_of b.now) }
     ensures { IfOk result (λ r. r ≡ zip2 (test_row (λ x y. not (less x y))) (rows_of a.now) (rows_of b.now)) }
 {
     let below = less_rows(alloc, a, b)?;
     below.not(alloc)
 }
 
-/// Row by row the opposite of `matches`.
-fn mismatches(alloc: Global, a: &Buffer, b: &Buffer) -> Result<Truths, AllocError>
-    requires same { kind_of a.now ≡ kind_of b.now }
-    requires long { length (rows_of a.now) ≡ length (rows_of b.now) }
+/// Row by row the negation of `matches`.
+fn mismatches(alloc: Global, a: &Buffer, b: &Buffer) -> Result<BooleanArray, AllocError>
+    requires same { type_of a.now ≡ type_of b.now }
+    requires same_length { length (rows_of a.now) ≡ length (rows_of b.now) }
     ensures { IfOk result (λ r. r ≡ zip2 mismatch_row (rows_of a.now) (rows_of b.now)) }
 {
     let same = matches(alloc, a, b)?;
@@ -111,10 +95,15 @@ fn mismatches(alloc: Global, a: &Buffer, b: &Buffer) -> Result<Truths, AllocErro
 }
 
 /// Row by row the comparison of two buffers of one type and one length.
-fn paired(alloc: Global, op: Operator, a: &Buffer, b: &Buffer) -> Result<Truths, AllocError>
+fn elementwise_values(
+    alloc: Global,
+    op: Operator,
+    a: &Buffer,
+    b: &Buffer,
+) -> Result<BooleanArray, AllocError>
     requires comparison { IsComparison op }
-    requires same { kind_of a.now ≡ kind_of b.now }
-    requires long { length (rows_of a.now) ≡ length (rows_of b.now) }
+    requires same { type_of a.now ≡ type_of b.now }
+    requires same_length { length (rows_of a.now) ≡ length (rows_of b.now) }
     ensures { IfOk result (λ r. r ≡ zip2 (compare_row op) (rows_of a.now) (rows_of b.now)) }
 {
     match op {
@@ -130,41 +119,40 @@ fn paired(alloc: Global, op: Operator, a: &Buffer, b: &Buffer) -> Result<Truths,
     }
 }
 
-/// Row by row the comparison of two columns of one type. One row goes with each row of the other.
-fn compared(alloc: Global, op: Operator, a: &Column, b: &Column) -> Result<Truths, PlanError>
+/// Row by row one of the eight comparisons of two buffers of one type, Boolean rows. A row is null where
+/// one is null, but for the two operators that see missing values, which never give null. A buffer of one
+/// row goes with each row of the other. `ShapeMismatch` where the lengths do not broadcast.
+pub fn compare_buffers(
+    alloc: Global,
+    op: Operator,
+    a: &Buffer,
+    b: &Buffer,
+) -> Result<Buffer, PlanError>
     requires comparison { IsComparison op }
-    requires same { a.now.values.kind ≡ b.now.values.kind }
-    ensures rows { IfOk result (λ r. Some r ≡ row_by_row (compare_row op) a.now.values.rows b.now.values.rows) }
-    ensures err { IfErr result (λ e. (e ≡ PlanError.OutOfMemory) ⊎ ((e ≡ PlanError.ShapeMismatch) × (row_by_row (compare_row op) a.now.values.rows b.now.values.rows ≡ None))) }
+    requires same { type_of a.now ≡ type_of b.now }
+    ensures rows { IfOk result (λ c. Some (values_of c) ≡ compare_rows op (values_of a.now) (values_of b.now)) }
+    ensures err { IfErr result (λ e. (e ≡ PlanError.OutOfMemory)
+        ⊎ ((e ≡ PlanError.ShapeMismatch) × (compare_rows op (values_of a.now) (values_of b.now) ≡ None))) }
 {
-    let m = a.len();
-    let n = b.len();
-    if m == n {
-        return Ok(paired(alloc, op, a.buffer(), b.buffer())?);
-    }
-    if m == 1 {
-        let wide = stretch(alloc, a, n)?;
-        return Ok(paired(alloc, op, wide.buffer(), b.buffer())?);
-    }
-    if n == 1 {
-        let wide = stretch(alloc, b, m)?;
-        return Ok(paired(alloc, op, a.buffer(), wide.buffer())?);
-    }
-    Err(PlanError::ShapeMismatch)
+    let Some(len) = join_lengths(a.len(), b.len()) else {
+        return Err(PlanError::ShapeMismatch);
+    };
+    let first = broadcast(alloc, a, len)?;
+    let second = broadcast(alloc, b, len)?;
+    let rows = elementwise_values(alloc, op, wide_or(&first, a), wide_or(&second, b))?;
+    Ok(Buffer::Boolean(rows))
 }
 
-/// Row by row one of the eight comparisons of two columns of one type, a Boolean column under the
-/// name of the first. It is null where one is null, but for the two that see missing values, which
-/// are never null. A column of one row goes with each row of the other. `ShapeMismatch` where the
-/// lengths do not join.
+/// The same of two columns, under the name of the first.
 pub fn compare(alloc: Global, op: Operator, a: &Column, b: &Column) -> Result<Column, PlanError>
     requires comparison { IsComparison op }
-    requires same { a.now.values.kind ≡ b.now.values.kind }
+    requires same { a.now.values.value_type ≡ b.now.values.value_type }
     ensures name { IfOk result (λ c. c.name ≡ a.now.name) }
     ensures rows { IfOk result (λ c. Some c.values ≡ compare_rows op a.now.values b.now.values) }
-    ensures err { IfErr result (λ e. (e ≡ PlanError.OutOfMemory) ⊎ ((e ≡ PlanError.ShapeMismatch) × (compare_rows op a.now.values b.now.values ≡ None))) }
+    ensures err { IfErr result (λ e. (e ≡ PlanError.OutOfMemory)
+        ⊎ ((e ≡ PlanError.ShapeMismatch) × (compare_rows op a.now.values b.now.values ≡ None))) }
 {
-    let rows = compared(alloc, op, a, b)?;
+    let buffer = compare_buffers(alloc, op, a.buffer(), b.buffer())?;
     let name = a.name().try_clone(alloc)?;
-    Ok(Column::new(name, Buffer::Boolean(rows)))
+    Ok(Column::new(name, buffer))
 }

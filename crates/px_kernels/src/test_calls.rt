@@ -1,20 +1,22 @@
 //! Calls of kernels on columns that are given as plain data.
-ghost use Rattle.std.specs.Prelude.{IsTrue, Some};
-ghost use Rattle.px_types.specs.Arithmetic.{IsArithmetic};
-ghost use Rattle.px_types.specs.Casts.{IsScalar};
-ghost use Rattle.px_types.specs.Comparisons.{IsComparison};
-ghost use Rattle.px_types.specs.Rows.{IsBoolean};
-ghost use Rattle.px_kernels.specs.Kinds.{IsSigned};
+ghost use Rattle.std.specs.Prelude.{◌⊎◌, IsTrue, Some};
+ghost use Rattle.px_semantics.specs.Arithmetic.{IsArithmetic};
+ghost use Rattle.px_semantics.specs.Casts.{IsScalar};
+ghost use Rattle.px_semantics.specs.Comparisons.{IsComparison};
+ghost use Rattle.px_types.specs.Integers.{IsInteger};
+ghost use Rattle.px_semantics.specs.Rows.{IsBoolean};
+ghost use Rattle.px_kernels.specs.OperandTypes.{IsSigned};
 
 use crate::arithmetic::negate;
 use crate::casts::cast;
-use crate::choice::zip_with;
 use crate::comparison::compare;
 use crate::fusion::fused;
+use crate::logic::{is_not_null, is_null, kleene_and, kleene_or, kleene_xor, negate_bitwise};
 use crate::operators::arith;
+use crate::selection::zip_with;
 use crate::test_columns::{Rows, Want, agrees, column};
 use px_column::Column;
-use px_types::{CastOptions, FusedOperator, Operator, PlanError, ValueType};
+use px_types::{BooleanFunction, CastOptions, FusedOperator, Operator, PlanError, ValueType};
 use std::alloc::Global;
 
 /// The answer to a call that breaks the kernel's rules.
@@ -22,29 +24,45 @@ fn wrong_call() -> Result<Column, PlanError> {
     Err(PlanError::KernelFailed)
 }
 
-fn is_signed(kind: ValueType) -> bool
-    ensures { IsTrue result → IsSigned kind }
+fn is_signed(value_type: ValueType) -> bool
+    ensures { IsTrue result → IsSigned value_type }
 {
-    match kind {
+    match value_type {
         ValueType::Int8 | ValueType::Int16 | ValueType::Int32 | ValueType::Int64 => true,
         _ => false,
     }
 }
 
-fn is_scalar(kind: ValueType) -> bool
-    ensures { IsTrue result → IsScalar kind }
+fn is_scalar(value_type: ValueType) -> bool
+    ensures { IsTrue result → IsScalar value_type }
 {
-    match kind {
+    match value_type {
         ValueType::String => false,
         _ => true,
     }
 }
 
-fn is_boolean(kind: ValueType) -> bool
-    ensures { IsTrue result → IsBoolean kind }
+fn is_boolean(value_type: ValueType) -> bool
+    ensures { IsTrue result → IsBoolean value_type }
 {
-    match kind {
+    match value_type {
         ValueType::Boolean => true,
+        _ => false,
+    }
+}
+
+fn is_operand_of_logic(value_type: ValueType) -> bool
+    ensures { IsTrue result → IsBoolean value_type ⊎ IsInteger value_type }
+{
+    match value_type {
+        ValueType::Null | ValueType::String => false,
+        _ => true,
+    }
+}
+
+fn is_logic(op: Operator) -> bool {
+    match op {
+        Operator::And | Operator::Or | Operator::Xor => true,
         _ => false,
     }
 }
@@ -69,11 +87,40 @@ fn is_comparison(op: Operator) -> bool
     }
 }
 
-fn opposite(alloc: Global, a: &Column) -> Result<Column, PlanError> {
-    if !is_signed(a.kind()) {
+fn negated(alloc: Global, a: &Column) -> Result<Column, PlanError> {
+    if !is_signed(a.value_type()) {
         return wrong_call();
     }
     negate(alloc, a)
+}
+
+fn inverse(alloc: Global, a: &Column) -> Result<Column, PlanError> {
+    if !is_operand_of_logic(a.value_type()) {
+        return wrong_call();
+    }
+    negate_bitwise(alloc, a)
+}
+
+fn predicate(alloc: Global, function: BooleanFunction, a: &Column) -> Result<Column, PlanError> {
+    match function {
+        BooleanFunction::IsNull => is_null(alloc, a),
+        BooleanFunction::IsNotNull => is_not_null(alloc, a),
+        BooleanFunction::Not => inverse(alloc, a),
+    }
+}
+
+fn logic(alloc: Global, op: Operator, a: &Column, b: &Column) -> Result<Column, PlanError> {
+    if !is_operand_of_logic(a.value_type()) {
+        return wrong_call();
+    }
+    if a.value_type() != b.value_type() {
+        return wrong_call();
+    }
+    match op {
+        Operator::And => kleene_and(alloc, a, b),
+        Operator::Or => kleene_or(alloc, a, b),
+        _ => kleene_xor(alloc, a, b),
+    }
 }
 
 /// The column as another type.
@@ -83,10 +130,13 @@ fn cast_column(
     to: ValueType,
     options: CastOptions,
 ) -> Result<Column, PlanError> {
-    if a.kind() == to {
+    if a.value_type() == to {
         return cast(alloc, a, &to.dtype(), options);
     }
-    if !is_scalar(a.kind()) {
+    if a.value_type() == ValueType::Null {
+        return cast(alloc, a, &to.dtype(), options);
+    }
+    if !is_scalar(a.value_type()) {
         return wrong_call();
     }
     if !is_scalar(to) {
@@ -95,15 +145,23 @@ fn cast_column(
     cast(alloc, a, &to.dtype(), options)
 }
 
-/// Arithmetic or a comparison.
-fn paired(alloc: Global, op: Operator, a: &Column, b: &Column) -> Result<Column, PlanError> {
-    if a.kind() != b.kind() {
+/// Logic, arithmetic or a comparison.
+fn elementwise_values(
+    alloc: Global,
+    op: Operator,
+    a: &Column,
+    b: &Column,
+) -> Result<Column, PlanError> {
+    if is_logic(op) {
+        return logic(alloc, op, a, b);
+    }
+    if a.value_type() != b.value_type() {
         return wrong_call();
     }
     if is_comparison(op) {
         return compare(alloc, op, a, b);
     }
-    if !a.kind().is_integer() {
+    if !a.value_type().is_integer() {
         return wrong_call();
     }
     if !is_arithmetic(op) {
@@ -112,11 +170,16 @@ fn paired(alloc: Global, op: Operator, a: &Column, b: &Column) -> Result<Column,
     arith(alloc, op, a, b)
 }
 
-fn chosen(alloc: Global, mask: &Column, a: &Column, b: &Column) -> Result<Column, PlanError> {
-    if !is_boolean(mask.kind()) {
+fn selected_rows(
+    alloc: Global,
+    mask: &Column,
+    a: &Column,
+    b: &Column,
+) -> Result<Column, PlanError> {
+    if !is_boolean(mask.value_type()) {
         return wrong_call();
     }
-    if a.kind() != b.kind() {
+    if a.value_type() != b.value_type() {
         return wrong_call();
     }
     zip_with(alloc, mask, a, b)
@@ -129,13 +192,13 @@ fn form(
     b: &Column,
     c: &Column,
 ) -> Result<Column, PlanError> {
-    if !a.kind().is_integer() {
+    if !a.value_type().is_integer() {
         return wrong_call();
     }
-    if a.kind() != b.kind() {
+    if a.value_type() != b.value_type() {
         return wrong_call();
     }
-    if b.kind() != c.kind() {
+    if b.value_type() != c.value_type() {
         return wrong_call();
     }
     fused(alloc, op, a, b, c)
@@ -145,25 +208,13 @@ fn form(
 #[derive(Clone, Copy)]
 pub enum Call {
     Negate,
+    Test(BooleanFunction),
     Cast(ValueType, CastOptions),
-    /// Arithmetic or a comparison.
+    /// Logic, arithmetic or a comparison.
     Pair(Operator),
-    /// Arithmetic, and a strict cast of what it gives.
-    PairAs(Operator, ValueType),
     /// The first or the second, by the mask that comes last.
-    Choice,
+    Selection,
     Fused(FusedOperator),
-}
-
-fn paired_as(
-    alloc: Global,
-    op: Operator,
-    to: ValueType,
-    a: &Column,
-    b: &Column,
-) -> Result<Column, PlanError> {
-    let pair = paired(alloc, op, a, b)?;
-    cast_column(alloc, &pair, to, CastOptions::Strict)
 }
 
 fn with_third(
@@ -176,7 +227,7 @@ fn with_third(
     let c = column(alloc, "c", c)?;
     match call {
         Call::Fused(op) => form(alloc, op, a, b, &c),
-        _ => chosen(alloc, &c, a, b),
+        _ => selected_rows(alloc, &c, a, b),
     }
 }
 
@@ -189,8 +240,7 @@ fn with_second(
 ) -> Result<Column, PlanError> {
     let b = column(alloc, "b", b)?;
     match call {
-        Call::Pair(op) => paired(alloc, op, a, &b),
-        Call::PairAs(op, to) => paired_as(alloc, op, to, a, &b),
+        Call::Pair(op) => elementwise_values(alloc, op, a, &b),
         _ => with_third(alloc, call, a, &b, c),
     }
 }
@@ -198,7 +248,8 @@ fn with_second(
 fn answer(alloc: Global, call: Call, a: Rows, b: Rows, c: Rows) -> Result<Column, PlanError> {
     let a = column(alloc, "a", a)?;
     match call {
-        Call::Negate => opposite(alloc, &a),
+        Call::Negate => negated(alloc, &a),
+        Call::Test(function) => predicate(alloc, function, &a),
         Call::Cast(to, options) => cast_column(alloc, &a, to, options),
         _ => with_second(alloc, call, &a, b, c),
     }

@@ -4,7 +4,7 @@ use px_column::Column;
 use px_types::{AnyValue, PlanError, SmallStr, ValueType};
 use std::alloc::Global;
 
-/// The type of a column and its rows. A truth value is 1 or 0, and a text stands under its number.
+/// The type of a column and its rows. A Boolean is 1 or 0, and a string stands under its number.
 pub type Rows<'a> = (ValueType, &'a [Option<i128>]);
 
 /// The rows of an answer, or the name of an error.
@@ -21,11 +21,11 @@ fn text(number: i128) -> &'static str {
 }
 
 fn bools(alloc: Global, name: &str, values: &[Option<i128>]) -> Result<Column, PlanError> {
-    let mut truths = Vec::with_capacity(alloc, values.len())?;
+    let mut as_booleans = Vec::with_capacity(alloc, values.len())?;
     for value in values {
-        truths.push(value.map(|number| number != 0))?;
+        as_booleans.push(value.map(|number| number != 0))?;
     }
-    Column::new_bool(alloc, name, truths.as_slice())
+    Column::new_bool(alloc, name, as_booleans.as_slice())
 }
 
 fn push_text(
@@ -51,15 +51,15 @@ fn texts(alloc: Global, name: &str, values: &[Option<i128>]) -> Result<Column, P
 
 /// A column of these rows.
 pub fn column(alloc: Global, name: &str, rows: Rows) -> Result<Column, PlanError> {
-    let (kind, values) = rows;
-    match kind {
+    let (value_type, values) = rows;
+    match value_type {
         ValueType::Null => match u32::try_from(values.len()) {
             Ok(len) => Column::new_null(alloc, name, len),
             Err(_) => Err(PlanError::TooLong),
         },
         ValueType::Boolean => bools(alloc, name, values),
         ValueType::String => texts(alloc, name, values),
-        _ => Column::new_int(alloc, name, kind.dtype(), values),
+        _ => Column::new_int(alloc, name, value_type.dtype(), values),
     }
 }
 
@@ -111,10 +111,10 @@ fn begins(column: &Column, values: &[Option<i128>]) -> bool {
 
 /// Whether the column is named `a` and has the type and the rows.
 fn reads(column: &Column, rows: Rows) -> bool {
-    let (kind, values) = rows;
+    let (value_type, values) = rows;
     column.name().as_str() == "a"
-        && column.kind() == kind
-        && *column.dtype() == kind.dtype()
+        && column.value_type() == value_type
+        && *column.dtype() == value_type.dtype()
         && column.len() as usize == values.len()
         && column.null_count() == nulls(values)
         && begins(column, values)

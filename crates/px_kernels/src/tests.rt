@@ -1,10 +1,15 @@
-//! Kernels at zero, at null and at lengths that do not join.
+//! Each kernel on short columns: at zero, at null, at lengths that do not broadcast, and on strings. The rows at
+//! the ends of each integer type are documents of px_cases.
 
 use crate::test_calls::{Call, gives};
 use crate::test_columns::{Rows, Want};
+use px_types::BooleanFunction::{self, IsNotNull, IsNull, Not};
+use px_types::CastOptions::{self, NonStrict, Overflowing, Strict};
 use px_types::FusedOperator::{self, MultiplyAdd, MultiplySub, SubMultiply};
-use px_types::Operator::{self, Eq, EqValidity, FloorDivide, Lt, LtEq, Modulus, Plus};
-use px_types::ValueType::{Boolean, Int8, Int32, Null, String};
+use px_types::Operator::{
+    self, And, Eq, EqValidity, FloorDivide, Lt, LtEq, Modulus, Or, Plus, Xor,
+};
+use px_types::ValueType::{self, Boolean, Int8, Int32, Int64, Null, String, UInt8};
 
 /// Dividends, and a divisor for each.
 const A: Rows<'static> = (Int8, &[Some(-128), Some(7), None, Some(-7), Some(7)]);
@@ -18,8 +23,8 @@ const D: Rows<'static> = (Int8, &[Some(1), None, Some(2)]);
 
 const NULL: Rows<'static> = (Null, &[None]);
 
-/// Quotients round down and are null at zero; comparisons see nulls; texts are compared by their bytes;
-/// false is below true; lengths that do not join are refused.
+/// Division is floor division and are null at zero; comparisons see nulls; strings are compared by their bytes;
+/// false is below true; lengths that do not broadcast are refused.
 const PAIRS: [(Operator, Rows<'static>, Rows<'static>, Want<'static>); 10] = [
     (
         FloorDivide,
@@ -65,19 +70,134 @@ fn pairs_of_columns_give_their_rows(rt: HostRuntime) {
     }
 }
 
+/// A Boolean of each value, integers and strings with a null between.
+const BOOLEANS: Rows<'static> = (Boolean, &[Some(1), None, Some(0)]);
+
+const BYTES: Rows<'static> = (Int8, &[Some(100), None, Some(-128)]);
+
+const STRINGS: Rows<'static> = (String, &[Some(4), None, Some(0)]);
+
+const NULLS: Rows<'static> = (Null, &[None, None]);
+
+/// One row goes with each row of the other, on the left and on the right; integers are taken bit by bit;
+/// lengths that do not broadcast are refused.
+const LOGIC: [(Operator, Rows<'static>, Rows<'static>, Want<'static>); 7] = [
+    (
+        And,
+        BOOLEANS,
+        (Boolean, &[None]),
+        Ok((Boolean, &[None, None, Some(0)])),
+    ),
+    (
+        And,
+        (Boolean, &[None]),
+        BOOLEANS,
+        Ok((Boolean, &[None, None, Some(0)])),
+    ),
+    (Or, BOOLEANS, (Boolean, &[Some(0)]), Ok(BOOLEANS)),
+    (
+        And,
+        BOOLEANS,
+        (Boolean, &[Some(1), Some(0)]),
+        Err("ShapeMismatch"),
+    ),
+    (Or, (Boolean, &[]), BOOLEANS, Err("ShapeMismatch")),
+    (Xor, BYTES, (Int8, &[None, Some(0)]), Err("ShapeMismatch")),
+    (
+        Xor,
+        BYTES,
+        (Int8, &[Some(100)]),
+        Ok((Int8, &[Some(0), None, Some(-28)])),
+    ),
+];
+
 #[test]
-fn the_opposite_of_the_least_is_itself(rt: HostRuntime) {
+fn logic_goes_row_by_row(rt: HostRuntime) {
+    for (op, a, b, want) in LOGIC {
+        assert!(rt; gives(rt.alloc(), Call::Pair(op), a, b, b, want), "{op}");
+    }
+}
+
+/// Strings differ from nulls, and nulls are no values.
+const PREDICATES: [(BooleanFunction, Rows<'static>, Want<'static>); 4] = [
+    (Not, BYTES, Ok((Int8, &[Some(-101), None, Some(127)]))),
+    (Not, BOOLEANS, Ok((Boolean, &[Some(0), None, Some(1)]))),
+    (IsNull, STRINGS, Ok((Boolean, &[Some(0), Some(1), Some(0)]))),
+    (IsNotNull, NULLS, Ok((Boolean, &[Some(0), Some(0)]))),
+];
+
+#[test]
+fn predicates_go_row_by_row(rt: HostRuntime) {
+    for (function, a, want) in PREDICATES {
+        assert!(rt; gives(rt.alloc(), Call::Test(function), a, a, a, want));
+    }
+}
+
+#[test]
+fn the_negation_of_the_least_is_itself(rt: HostRuntime) {
     let rows: Rows = (Int8, &[Some(-128), Some(0), None, Some(127)]);
     let want: Rows = (Int8, &[Some(-128), Some(0), None, Some(-127)]);
     assert!(rt; gives(rt.alloc(), Call::Negate, rows, rows, rows, Ok(want)));
+}
+
+const WIDE: Rows<'static> = (Int32, &[Some(300), None, Some(-1), Some(7)]);
+
+const FLAGS: Rows<'static> = (Boolean, &[Some(1), None, Some(0)]);
+
+const TEXTS: Rows<'static> = (String, &[Some(4), None, Some(0)]);
+
+/// A number that the type lacks is refused, null, or its residue; Booleans are 1 and 0, and a number
+/// is true where it is not 0; null has no value; a column of the type stays.
+const CASTS: [(Rows<'static>, ValueType, CastOptions, Want<'static>); 11] = [
+    (WIDE, UInt8, Strict, Err("InvalidCast")),
+    (
+        WIDE,
+        UInt8,
+        NonStrict,
+        Ok((UInt8, &[None, None, None, Some(7)])),
+    ),
+    (
+        WIDE,
+        UInt8,
+        Overflowing,
+        Ok((UInt8, &[Some(44), None, Some(255), Some(7)])),
+    ),
+    (
+        WIDE,
+        Int64,
+        Strict,
+        Ok((Int64, &[Some(300), None, Some(-1), Some(7)])),
+    ),
+    (FLAGS, Int8, Strict, Ok((Int8, &[Some(1), None, Some(0)]))),
+    (
+        (Int8, &[Some(2), None, Some(0)]),
+        Boolean,
+        Strict,
+        Ok(FLAGS),
+    ),
+    (FLAGS, Null, Strict, Err("InvalidCast")),
+    (FLAGS, Null, NonStrict, Ok((Null, &[None, None, None]))),
+    (NULL, Int64, Strict, Ok((Int64, &[None]))),
+    (NULL, String, Strict, Ok((String, &[None]))),
+    (TEXTS, String, Strict, Ok(TEXTS)),
+];
+
+#[test]
+fn casts_keep_what_the_type_has(rt: HostRuntime) {
+    let mut i = 0_u32;
+    for (rows, to, options, want) in CASTS {
+        let call = Call::Cast(to, options);
+        assert!(rt; gives(rt.alloc(), call, rows, rows, rows, want), "cast {i}");
+        i = i.saturating_add(1);
+    }
 }
 
 const MASK: Rows<'static> = (Boolean, &[Some(1), None, Some(0)]);
 
 const MANY: Rows<'static> = (Int8, &[Some(1), Some(2), Some(3)]);
 
-/// A null mask chooses the second, and one row goes with each row, a mask's too; texts, truth values
-/// and nulls are chosen row by row; lengths that do not join are refused.
+/// A null mask selects the second, and one row goes with each row, a mask's too; strings, Booleans
+/// and nulls are selected row by row; lengths that do not broadcast are refused.
 const CHOICES: [(Rows<'static>, Rows<'static>, Rows<'static>, Want<'static>); 7] = [
     (
         MANY,
@@ -114,11 +234,11 @@ const CHOICES: [(Rows<'static>, Rows<'static>, Rows<'static>, Want<'static>); 7]
 ];
 
 #[test]
-fn a_mask_chooses_row_by_row(rt: HostRuntime) {
+fn a_mask_selects_row_by_row(rt: HostRuntime) {
     let mut i = 0_u32;
     for (a, b, mask, want) in CHOICES {
         assert!(rt;
-            gives(rt.alloc(), Call::Choice, a, b, mask, want),
+            gives(rt.alloc(), Call::Selection, a, b, mask, want),
             "choice {i}"
         );
         i = i.saturating_add(1);
@@ -143,7 +263,7 @@ type Fused = (
 );
 
 /// The one that is taken into the type, one row in each place, no rows, nulls, and lengths that do not
-/// join.
+/// broadcast.
 const FUSED: [Fused; 14] = [
     (
         MultiplyAdd,

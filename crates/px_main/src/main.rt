@@ -1,9 +1,9 @@
-//! The program: `px select` reads a document on standard input and writes its report.
+//! The program: `px select` and `px filter` read a document on standard input and write its report.
 #![tactic(auto)]
 
 ghost use Rattle.std.specs.Prelude.{◌≡◌};
 
-use px_app::{StdSink, StdSource, run_document};
+use px_app::{NO_MEMORY, OTHER_WORDS, StdSink, StdSource, run_document};
 use px_types::{List, PlanError, SmallStr, Steps};
 use std::alloc::Global;
 use std::marker::Brand;
@@ -11,12 +11,6 @@ use std::process::ExitCode;
 use std::rt::Env;
 use std::sync::ledger::{Blank, Ledger};
 use std::{env, io};
-
-/// No memory for the arguments.
-const NO_MEMORY: u8 = 3;
-
-/// The arguments are not the words that the program knows.
-const OTHER_WORDS: u8 = 6;
 
 fn main(rt: HostRuntime) -> ExitCode {
     let status = match words_of(&rt) {
@@ -39,7 +33,7 @@ fn answered<L: Ledger>(rt: HostRuntime, words: &[SmallStr], blank: Blank) -> u8
     run_document(alloc, words, &mut source, &mut sink, &mut steps)
 }
 
-/// The arguments after the program's name, or the status that is due without them.
+/// The arguments after the program's name, or the status without them.
 fn words_of(rt: &(impl Env + Alloc<A = Global>)) -> Result<List<SmallStr>, u8> {
     let args = env::args(rt).map_err(status_of)?;
     let mut words = List::new(rt.alloc());

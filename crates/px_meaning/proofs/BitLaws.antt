@@ -8,13 +8,13 @@ use Rattle.std.proofs.lemmas.Int.{ints, to_z-of_z, of_z-to_z}
 use Rattle.std.proofs.lemmas.Nat.{or_lt, and-not, and_comm}
 use Rattle.std.proofs.Math.Facts.{Fits-of_z, Fits-lt-pow}
 use Rattle.std.proofs.Math.Pow.{ones_sub-lt}
-use Rattle.px_integers.specs.Ranges.{KeepsBits}
-use Rattle.px_types.specs.Bitwise.{bitwise, complement}
+use Rattle.px_semantics.proofs.Ranges.{KeepsBits}
+use Rattle.px_semantics.specs.Bitwise.{bitwise, complement}
 use Rattle.px_types.specs.Integers.{InRange}
 use Rattle.px_types.specs.declared.value_type.ValueType.{ValueType}
-use Rattle.px_types.specs.declared.value_type.ValueType.TheVariants as kind
+use Rattle.px_types.specs.declared.value_type.ValueType.TheVariants as value_type
 
--- all bits turned, of a number of p - 1 at most
+-- the complement, of a number of p - 1 at most
 turned-twice : (p n : ℕ) → n < p → p - 1 - (p - 1 - n) ≡ n
 turned-twice p n h = omega arith
 
@@ -45,7 +45,7 @@ bit_not-or w m n h i =
     let f : bit_or m n < p = or_lt (bits w) m n h i in
     omega (arith, a, b, c, d, e, f, h, i, q)
 
--- the bits of the opposites of two numbers are the opposites of the bits
+-- the bits of the negations of two numbers are the negations of the bits
 abbrev Turns : (ℕ → ℕ → ℕ) → (ℕ → ℕ → ℕ) → Type 0
 Turns f g = (w : Width) (m n : ℕ) → m < 2 ^ bits w → n < 2 ^ bits w → bit_not w (f m n) ≡ g (bit_not w m) (bit_not w n)
 
@@ -65,17 +65,17 @@ signed-twice w x h =
     ∙ (ap (cast_signed w) (bit_not-twice w (cast_unsigned w x) (below w x h)) ∙ to_z-of_z w x h)
 
 pub complement-twice : (k : ValueType) (x : ℤ) → InRange k x → complement k (complement k x) ≡ x
-complement-twice kind.Null x h = absurd h
-complement-twice kind.Boolean x h = absurd h
-complement-twice kind.String x h = absurd h
-complement-twice kind.UInt8 x h = unsigned-twice w8 x h
-complement-twice kind.UInt16 x h = unsigned-twice w16 x h
-complement-twice kind.UInt32 x h = unsigned-twice w32 x h
-complement-twice kind.UInt64 x h = unsigned-twice w64 x h
-complement-twice kind.Int8 x h = signed-twice w8 x h
-complement-twice kind.Int16 x h = signed-twice w16 x h
-complement-twice kind.Int32 x h = signed-twice w32 x h
-complement-twice kind.Int64 x h = signed-twice w64 x h
+complement-twice value_type.Null x h = absurd h
+complement-twice value_type.Boolean x h = absurd h
+complement-twice value_type.String x h = absurd h
+complement-twice value_type.UInt8 x h = unsigned-twice w8 x h
+complement-twice value_type.UInt16 x h = unsigned-twice w16 x h
+complement-twice value_type.UInt32 x h = unsigned-twice w32 x h
+complement-twice value_type.UInt64 x h = unsigned-twice w64 x h
+complement-twice value_type.Int8 x h = signed-twice w8 x h
+complement-twice value_type.Int16 x h = signed-twice w16 x h
+complement-twice value_type.Int32 x h = signed-twice w32 x h
+complement-twice value_type.Int64 x h = signed-twice w64 x h
 
 module _ (f g : ℕ → ℕ → ℕ) (keeps : KeepsBits f) (turns : Turns f g) where
   unsigned-turns :
@@ -97,17 +97,17 @@ module _ (f g : ℕ → ℕ → ℕ) (keeps : KeepsBits f) (turns : Turns f g) w
       ∙ ap (λ z. cast_signed w (g (cast_unsigned w (cast_signed w (bit_not w m))) z)) (sym (of_z-to_z w (bit_not w n) (turned w n)))))
 
   pub complement-turns : (k : ValueType) (x y : ℤ) → InRange k x → InRange k y → complement k (bitwise f k x y) ≡ bitwise g k (complement k x) (complement k y)
-  complement-turns kind.Null x y h i = absurd h
-  complement-turns kind.Boolean x y h i = absurd h
-  complement-turns kind.String x y h i = absurd h
-  complement-turns kind.UInt8 x y h i = unsigned-turns w8 x y h i
-  complement-turns kind.UInt16 x y h i = unsigned-turns w16 x y h i
-  complement-turns kind.UInt32 x y h i = unsigned-turns w32 x y h i
-  complement-turns kind.UInt64 x y h i = unsigned-turns w64 x y h i
-  complement-turns kind.Int8 x y h i = signed-turns w8 x y h i
-  complement-turns kind.Int16 x y h i = signed-turns w16 x y h i
-  complement-turns kind.Int32 x y h i = signed-turns w32 x y h i
-  complement-turns kind.Int64 x y h i = signed-turns w64 x y h i
+  complement-turns value_type.Null x y h i = absurd h
+  complement-turns value_type.Boolean x y h i = absurd h
+  complement-turns value_type.String x y h i = absurd h
+  complement-turns value_type.UInt8 x y h i = unsigned-turns w8 x y h i
+  complement-turns value_type.UInt16 x y h i = unsigned-turns w16 x y h i
+  complement-turns value_type.UInt32 x y h i = unsigned-turns w32 x y h i
+  complement-turns value_type.UInt64 x y h i = unsigned-turns w64 x y h i
+  complement-turns value_type.Int8 x y h i = signed-turns w8 x y h i
+  complement-turns value_type.Int16 x y h i = signed-turns w16 x y h i
+  complement-turns value_type.Int32 x y h i = signed-turns w32 x y h i
+  complement-turns value_type.Int64 x y h i = signed-turns w64 x y h i
 
 pub complement-and : (k : ValueType) (x y : ℤ) → InRange k x → InRange k y → complement k (bitwise bit_and k x y) ≡ bitwise bit_or k (complement k x) (complement k y)
 complement-and = complement-turns bit_and bit_or and_lt bit_not-and

@@ -4,46 +4,46 @@ use Rattle.std.specs.Prelude.{option_map}
 use Rattle.std.specs.Simd.Lanes.{Each1, zip2}
 use Rattle.std.proofs.lemmas.List.{length-map, length-replicate}
 use Rattle.std.proofs.lemmas.Simd.{length-zip2, Each1-replicate}
-use Rattle.px_types.specs.Casts.{any_lost, cast_value, cast_row, cast_list, cast_rows}
-use Rattle.px_types.specs.Choices.{joined_three, choose_all, choose_row, choose_rows}
-use Rattle.px_types.specs.Fused.{zip3, three_row_by_row}
-use Rattle.px_types.specs.Logic.{is_true}
-use Rattle.px_types.specs.Rows.{Datum, Row, TypedRows, IsRowOf, joined, stretch, row_by_row, joined_rows}
-use Rattle.px_types.specs.declared.kinds.CastOptions.{CastOptions}
-use Rattle.px_types.specs.declared.kinds.CastOptions.TheVariants.{Strict, NonStrict, Overflowing}
+use Rattle.px_semantics.specs.Casts.{any_lost, cast_value, cast_row, cast_list, cast_rows}
+use Rattle.px_semantics.specs.Selections.{broadcast_length_three, select_all, select_row, select_rows}
+use Rattle.px_semantics.specs.Fused.{zip3, elementwise_three}
+use Rattle.px_semantics.specs.Logic.{is_true}
+use Rattle.px_semantics.specs.Rows.{Datum, Row, TypedRows, IsRowOf, broadcast_length, stretch, elementwise, broadcast_rows}
+use Rattle.px_types.specs.declared.type_parts.CastOptions.{CastOptions}
+use Rattle.px_types.specs.declared.type_parts.CastOptions.TheVariants.{Strict, NonStrict, Overflowing}
 use Rattle.px_types.specs.declared.value_type.ValueType.{ValueType}
-use Rattle.px_types.specs.declared.value_type.ValueType.TheVariants as kind
-use Rattle.px_column.proofs.LawLemmas.{by_eq}
-use Rattle.px_rows.proofs.Joins.{joined_same, joined_left, joined_right, joined_none, stretch_one, stretch_whole}
-use Rattle.px_types.specs.Columns.{IsColumn}
+use Rattle.px_types.specs.declared.value_type.ValueType.TheVariants as value_type
+use Rattle.px_semantics.proofs.LawLemmas.{by_eq}
+use Rattle.px_semantics.proofs.Joins.{broadcast_same, broadcast_left, broadcast_right, broadcast_none, stretch_one, stretch_whole}
+use Rattle.px_semantics.specs.Columns.{IsColumn}
 use Rattle.px_meaning.proofs.Shapes.{and_then-parts, map-parts}
 
 -- a column of the type
 pub record IsColumnOf (k : ValueType) (a : TypedRows) : Type 0 where
-  pub kind : a.kind ≡ k
+  pub value_type : a.value_type ≡ k
   pub column : IsColumn a
 
 pub typed_rows : (k : ValueType) (a : TypedRows) → IsColumnOf k a → Each1 (IsRowOf k) a.rows
-typed_rows k a h = subst (λ (j : ValueType). Each1 (IsRowOf j) a.rows) h.kind h.column.typed
+typed_rows k a h = subst (λ (j : ValueType). Each1 (IsRowOf j) a.rows) h.value_type h.column.typed
 
 -- rows of a type, fewer than 2^32, are a column
-pub is_column_of : (k : ValueType) (rows : List Row) → length rows < 2 ^ 32 → Each1 (IsRowOf k) rows → IsColumnOf k (record { kind = k; rows = rows })
-is_column_of k rows few typed = record { kind = refl; column = record { few = few; typed = typed } }
+pub is_column_of : (k : ValueType) (rows : List Row) → length rows < 2 ^ 32 → Each1 (IsRowOf k) rows → IsColumnOf k (record { value_type = k; rows = rows })
+is_column_of k rows few typed = record { value_type = refl; column = record { few = few; typed = typed } }
 
--- what lengths join to
+-- what lengths broadcast to
 pub record Joins (m n l : ℕ) : Type 0 where
   pub left : (m ≡ 1) ⊎ (m ≡ l)
   pub right : (n ≡ 1) ⊎ (n ≡ l)
   pub either : (l ≡ m) ⊎ (l ≡ n)
 
-pub joined-parts : (m n l : ℕ) → joined m n ≡ Some l → Joins m n l
-joined-parts m n l e = elim (by_eq m n) [
-  | inl p ↦ let f : Some m ≡ Some l = sym (joined_same m n p) ∙ e in let g : m ≡ l = cc in record { left = inr g; right = inr (sym p ∙ g); either = inl (sym g) }
+pub broadcast_length-parts : (m n l : ℕ) → broadcast_length m n ≡ Some l → Joins m n l
+broadcast_length-parts m n l e = elim (by_eq m n) [
+  | inl p ↦ let f : Some m ≡ Some l = sym (broadcast_same m n p) ∙ e in let g : m ≡ l = cc in record { left = inr g; right = inr (sym p ∙ g); either = inl (sym g) }
   | inr d ↦ elim (by_eq m 1) [
-    | inl p ↦ let f : Some n ≡ Some l = sym (joined_left m n p) ∙ e in let g : n ≡ l = cc in record { left = inl p; right = inr g; either = inr (sym g) }
+    | inl p ↦ let f : Some n ≡ Some l = sym (broadcast_left m n p) ∙ e in let g : n ≡ l = cc in record { left = inl p; right = inr g; either = inr (sym g) }
     | inr q ↦ elim (by_eq n 1) [
-      | inl p ↦ let f : Some m ≡ Some l = sym (joined_right m n d q p) ∙ e in let g : m ≡ l = cc in record { left = inr g; right = inl p; either = inl (sym g) }
-      | inr r ↦ let f : None ≡ Some l = sym (joined_none m n d q r) ∙ e in cc
+      | inl p ↦ let f : Some m ≡ Some l = sym (broadcast_right m n d q p) ∙ e in let g : m ≡ l = cc in record { left = inr g; right = inl p; either = inl (sym g) }
+      | inr r ↦ let f : None ≡ Some l = sym (broadcast_none m n d q r) ∙ e in cc
     ]
   ]
 ]
@@ -69,13 +69,13 @@ zip2-typed P Q R f h (x ∷ xs) [] p q = tt
 zip2-typed P Q R f h (x ∷ xs) (y ∷ ys) p q = (h x y p.0 q.0, zip2-typed P Q R f h xs ys p.1 q.1)
 
 -- f row by row of two columns is a column
-pub joined_rows-typed :
+pub broadcast_rows-typed :
     (i j k : ValueType) (f : Row → Row → Row) → ((x y : Row) → IsRowOf i x → IsRowOf j y → IsRowOf k (f x y)) →
-    (a b v : TypedRows) → IsColumnOf i a → IsColumnOf j b → joined_rows k f a.rows b.rows ≡ Some v → IsColumnOf k v
-joined_rows-typed i j k f h a b v ha hb e =
-    let (rows, g, same) = map-parts (row_by_row f a.rows b.rows) (λ rows. record { kind = k; rows = rows }) v e in
-    let (n, d, made) = map-parts (joined (length a.rows) (length b.rows)) (λ n. zip2 f (stretch n a.rows) (stretch n b.rows)) rows g in
-    let to = joined-parts (length a.rows) (length b.rows) n d in
+    (a b v : TypedRows) → IsColumnOf i a → IsColumnOf j b → broadcast_rows k f a.rows b.rows ≡ Some v → IsColumnOf k v
+broadcast_rows-typed i j k f h a b v ha hb e =
+    let (rows, g, same) = map-parts (elementwise f a.rows b.rows) (λ rows. record { value_type = k; rows = rows }) v e in
+    let (n, d, made) = map-parts (broadcast_length (length a.rows) (length b.rows)) (λ n. zip2 f (stretch n a.rows) (stretch n b.rows)) rows g in
+    let to = broadcast_length-parts (length a.rows) (length b.rows) n d in
     let left = stretch-long a.rows n to.left in
     let right = stretch-long b.rows n to.right in
     let long : length (zip2 f (stretch n a.rows) (stretch n b.rows)) ≡ n = length-zip2 f (stretch n a.rows) (stretch n b.rows) (left ∙ sym right) ∙ left in
@@ -83,7 +83,7 @@ joined_rows-typed i j k f h a b v ha hb e =
     let typed : Each1 (IsRowOf k) (zip2 f (stretch n a.rows) (stretch n b.rows)) =
     zip2-typed (IsRowOf i) (IsRowOf j) (IsRowOf k) f h (stretch n a.rows) (stretch n b.rows) (stretch-typed (IsRowOf i) tt n a.rows (typed_rows i a ha)) (stretch-typed (IsRowOf j) tt n b.rows (typed_rows j b hb)) in
     subst (IsColumnOf k) same
-    (subst (λ (z : List Row). IsColumnOf k (record { kind = k; rows = z })) made
+    (subst (λ (z : List Row). IsColumnOf k (record { value_type = k; rows = z })) made
     (is_column_of k (zip2 f (stretch n a.rows) (stretch n b.rows)) (subst (λ (x : ℕ). x < 2 ^ 32) (sym long) few) typed))
 
 pub map-typed : (P Q : Row → Type 0) (f : Row → Row) → ((r : Row) → P r → Q (f r)) → (rows : List Row) → Each1 P rows → Each1 Q (map f rows)
@@ -91,11 +91,11 @@ map-typed P Q f h [] p = tt
 map-typed P Q f h (r ∷ rows) p = (h r p.0, map-typed P Q f h rows p.1)
 
 -- f of each row of a column is a column
-pub map-column : (j k : ValueType) (f : Row → Row) → ((r : Row) → IsRowOf j r → IsRowOf k (f r)) → (a : TypedRows) → IsColumnOf j a → IsColumnOf k (record { kind = k; rows = map f a.rows })
+pub map-column : (j k : ValueType) (f : Row → Row) → ((r : Row) → IsRowOf j r → IsRowOf k (f r)) → (a : TypedRows) → IsColumnOf j a → IsColumnOf k (record { value_type = k; rows = map f a.rows })
 map-column j k f h a ha =
     is_column_of k (map f a.rows) (subst (λ (n : ℕ). n < 2 ^ 32) (sym (length-map a.rows f)) ha.column.few) (map-typed (IsRowOf j) (IsRowOf k) f h a.rows (typed_rows j a ha))
 
--- three lengths that join
+-- three lengths that broadcast
 pub record JoinsThree (m n p l : ℕ) : Type 0 where
   pub first : (m ≡ 1) ⊎ (m ≡ l)
   pub second : (n ≡ 1) ⊎ (n ≡ l)
@@ -107,11 +107,11 @@ onward m k l (inl e) h = inl e
 onward m k l (inr e) (inl f) = inl (e ∙ f)
 onward m k l (inr e) (inr f) = inr (e ∙ f)
 
-pub joined_three-parts : (m n p l : ℕ) → joined_three m n p ≡ Some l → JoinsThree m n p l
-joined_three-parts m n p l e =
-    let (k, f, g) = and_then-parts (joined n p) (λ l. joined m l) l e in
-    let inner = joined-parts n p k f in
-    let outer = joined-parts m k l g in
+pub broadcast_length_three-parts : (m n p l : ℕ) → broadcast_length_three m n p ≡ Some l → JoinsThree m n p l
+broadcast_length_three-parts m n p l e =
+    let (k, f, g) = and_then-parts (broadcast_length n p) (λ l. broadcast_length m l) l e in
+    let inner = broadcast_length-parts n p k f in
+    let outer = broadcast_length-parts m k l g in
     record {
       first = outer.left;
       second = onward n k l inner.left outer.right;
@@ -131,19 +131,19 @@ zip3-typed k f h (x ∷ xs) [] zs = tt
 zip3-typed k f h (x ∷ xs) (y ∷ ys) [] = tt
 zip3-typed k f h (x ∷ xs) (y ∷ ys) (z ∷ zs) = (h x y z, zip3-typed k f h xs ys zs)
 
-pub choose-long : (ms xs ys : List Row) → length ms ≡ length xs → length xs ≡ length ys → length (choose_all ms xs ys) ≡ length ms
+pub choose-long : (ms xs ys : List Row) → length ms ≡ length xs → length xs ≡ length ys → length (select_all ms xs ys) ≡ length ms
 choose-long [] xs ys e g = refl
 choose-long (m ∷ ms) [] ys e g = absurd (omega arith)
 choose-long (m ∷ ms) (x ∷ xs) [] e g = absurd (omega arith)
-choose-long (m ∷ ms) (x ∷ xs) (y ∷ ys) e g = let h : length (choose_all ms xs ys) ≡ length ms = choose-long ms xs ys (omega arith) (omega arith) in omega arith
+choose-long (m ∷ ms) (x ∷ xs) (y ∷ ys) e g = let h : length (select_all ms xs ys) ≡ length ms = choose-long ms xs ys (omega arith) (omega arith) in omega arith
 
-pub choose-typed : (P : Row → Type 0) (ms xs ys : List Row) → Each1 P xs → Each1 P ys → Each1 P (choose_all ms xs ys)
+pub choose-typed : (P : Row → Type 0) (ms xs ys : List Row) → Each1 P xs → Each1 P ys → Each1 P (select_all ms xs ys)
 choose-typed P [] xs ys p q = tt
 choose-typed P (m ∷ ms) [] ys p q = tt
 choose-typed P (m ∷ ms) (x ∷ xs) [] p q = tt
 choose-typed P (m ∷ ms) (x ∷ xs) (y ∷ ys) p q = (go (is_true m), choose-typed P ms xs ys p.1 q.1)
   where
-    go : (b : Bool) → P (choose_row b x y)
+    go : (b : Bool) → P (select_row b x y)
     go true = p.0
     go false = q.0
 
@@ -155,38 +155,38 @@ few_of m n p l a b c (inr (inr e)) = subst (λ (x : ℕ). x < 2 ^ 32) (sym e) c
 -- f row by row of three columns is a column
 pub three-column :
     (i j l k : ValueType) (f : Row → Row → Row → Row) → ((x y z : Row) → IsRowOf k (f x y z)) → (a b d v : TypedRows) → IsColumnOf i a → IsColumnOf j b → IsColumnOf l d →
-    option_map (λ rows. record { kind = k; rows = rows }) (three_row_by_row f a.rows b.rows d.rows) ≡ Some v → IsColumnOf k v
+    option_map (λ rows. record { value_type = k; rows = rows }) (elementwise_three f a.rows b.rows d.rows) ≡ Some v → IsColumnOf k v
 three-column i j l k f h a b d v ha hb hd e =
-    let (rows, g, same) = map-parts (three_row_by_row f a.rows b.rows d.rows) (λ rows. record { kind = k; rows = rows }) v e in
-    let (n, q, made) = map-parts (joined_three (length a.rows) (length b.rows) (length d.rows)) (λ n. zip3 f (stretch n a.rows) (stretch n b.rows) (stretch n d.rows)) rows g in
-    let to = joined_three-parts (length a.rows) (length b.rows) (length d.rows) n q in
+    let (rows, g, same) = map-parts (elementwise_three f a.rows b.rows d.rows) (λ rows. record { value_type = k; rows = rows }) v e in
+    let (n, q, made) = map-parts (broadcast_length_three (length a.rows) (length b.rows) (length d.rows)) (λ n. zip3 f (stretch n a.rows) (stretch n b.rows) (stretch n d.rows)) rows g in
+    let to = broadcast_length_three-parts (length a.rows) (length b.rows) (length d.rows) n q in
     let x = stretch-long a.rows n to.first in
     let y = stretch-long b.rows n to.second in
     let z = stretch-long d.rows n to.third in
     let long : length (zip3 f (stretch n a.rows) (stretch n b.rows) (stretch n d.rows)) ≡ n = zip3-long f (stretch n a.rows) (stretch n b.rows) (stretch n d.rows) (x ∙ sym y) (y ∙ sym z) ∙ x in
     let few : n < 2 ^ 32 = few_of (length a.rows) (length b.rows) (length d.rows) n ha.column.few hb.column.few hd.column.few to.one_of in
     subst (IsColumnOf k) same
-    (subst (λ (r : List Row). IsColumnOf k (record { kind = k; rows = r })) made
+    (subst (λ (r : List Row). IsColumnOf k (record { value_type = k; rows = r })) made
     (is_column_of k (zip3 f (stretch n a.rows) (stretch n b.rows) (stretch n d.rows)) (subst (λ (m : ℕ). m < 2 ^ 32) (sym long) few)
     (zip3-typed k f h (stretch n a.rows) (stretch n b.rows) (stretch n d.rows))))
 
 -- two columns of a type by a mask are a column of it
-pub choose_rows-typed : (k : ValueType) (m a b v : TypedRows) → IsColumnOf kind.Boolean m → IsColumnOf k a → IsColumnOf k b → choose_rows m a b ≡ Some v → IsColumnOf k v
-unfolding choose_rows
-choose_rows-typed k m a b v hm ha hb e =
-    let made : ℕ → TypedRows = λ n. record { kind = a.kind; rows = choose_all (stretch n m.rows) (stretch n a.rows) (stretch n b.rows) } in
-    let (n, q, same) = map-parts (joined_three (length m.rows) (length a.rows) (length b.rows)) made v e in
-    let to = joined_three-parts (length m.rows) (length a.rows) (length b.rows) n q in
+pub select_rows-typed : (k : ValueType) (m a b v : TypedRows) → IsColumnOf value_type.Boolean m → IsColumnOf k a → IsColumnOf k b → select_rows m a b ≡ Some v → IsColumnOf k v
+unfolding select_rows
+select_rows-typed k m a b v hm ha hb e =
+    let made : ℕ → TypedRows = λ n. record { value_type = a.value_type; rows = select_all (stretch n m.rows) (stretch n a.rows) (stretch n b.rows) } in
+    let (n, q, same) = map-parts (broadcast_length_three (length m.rows) (length a.rows) (length b.rows)) made v e in
+    let to = broadcast_length_three-parts (length m.rows) (length a.rows) (length b.rows) n q in
     let x = stretch-long m.rows n to.first in
     let y = stretch-long a.rows n to.second in
     let z = stretch-long b.rows n to.third in
-    let long : length (choose_all (stretch n m.rows) (stretch n a.rows) (stretch n b.rows)) ≡ n = choose-long (stretch n m.rows) (stretch n a.rows) (stretch n b.rows) (x ∙ sym y) (y ∙ sym z) ∙ x in
+    let long : length (select_all (stretch n m.rows) (stretch n a.rows) (stretch n b.rows)) ≡ n = choose-long (stretch n m.rows) (stretch n a.rows) (stretch n b.rows) (x ∙ sym y) (y ∙ sym z) ∙ x in
     let few : n < 2 ^ 32 = few_of (length m.rows) (length a.rows) (length b.rows) n hm.column.few ha.column.few hb.column.few to.one_of in
-    let typed : Each1 (IsRowOf k) (choose_all (stretch n m.rows) (stretch n a.rows) (stretch n b.rows)) =
+    let typed : Each1 (IsRowOf k) (select_all (stretch n m.rows) (stretch n a.rows) (stretch n b.rows)) =
     choose-typed (IsRowOf k) (stretch n m.rows) (stretch n a.rows) (stretch n b.rows) (stretch-typed (IsRowOf k) tt n a.rows (typed_rows k a ha)) (stretch-typed (IsRowOf k) tt n b.rows (typed_rows k b hb)) in
     subst (IsColumnOf k) same
-    (subst (λ (j : ValueType). IsColumnOf k (record { kind = j; rows = choose_all (stretch n m.rows) (stretch n a.rows) (stretch n b.rows) })) (sym ha.kind)
-    (is_column_of k (choose_all (stretch n m.rows) (stretch n a.rows) (stretch n b.rows)) (subst (λ (i : ℕ). i < 2 ^ 32) (sym long) few) typed))
+    (subst (λ (j : ValueType). IsColumnOf k (record { value_type = j; rows = select_all (stretch n m.rows) (stretch n a.rows) (stretch n b.rows) })) (sym ha.value_type)
+    (is_column_of k (select_all (stretch n m.rows) (stretch n a.rows) (stretch n b.rows)) (subst (λ (i : ℕ). i < 2 ^ 32) (sym long) few) typed))
 
 -- the rows of a cast
 pub cast_list-parts : (options : CastOptions) (f : Datum → Row) (rows out : List Row) → cast_list options f rows ≡ Some out → map (cast_row f) rows ≡ out
@@ -202,7 +202,7 @@ pub cast_rows-typed :
     (options : CastOptions) (j k : ValueType) → ((r : Row) → IsRowOf k (cast_row (cast_value options k) r)) → (a v : TypedRows) → IsColumnOf j a → cast_rows options k a ≡ Some v → IsColumnOf k v
 unfolding cast_rows
 cast_rows-typed options j k h a v ha e =
-    let (rows, g, same) = map-parts (cast_list options (cast_value options k) a.rows) (λ rows. record { kind = k; rows = rows }) v e in
+    let (rows, g, same) = map-parts (cast_list options (cast_value options k) a.rows) (λ rows. record { value_type = k; rows = rows }) v e in
     let made = cast_list-parts options (cast_value options k) a.rows rows g in
     subst (IsColumnOf k) same
-    (subst (λ (r : List Row). IsColumnOf k (record { kind = k; rows = r })) made (map-column j k (cast_row (cast_value options k)) (λ r p. h r) a ha))
+    (subst (λ (r : List Row). IsColumnOf k (record { value_type = k; rows = r })) made (map-column j k (cast_row (cast_value options k)) (λ r p. h r) a ha))

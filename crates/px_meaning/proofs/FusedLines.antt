@@ -4,22 +4,22 @@ use Rattle.std.specs.Prelude.{option_map, option_and_then}
 use Rattle.std.specs.Simd.Lanes.{zip2}
 use Rattle.px_base.specs.declared.error.PlanError.{PlanError}
 use Rattle.px_base.specs.declared.error.PlanError.TheVariants.{ShapeMismatch}
-use Rattle.px_types.specs.Arithmetic.{arith_row, arith_rows}
-use Rattle.px_types.specs.Choices.{joined_three}
+use Rattle.px_semantics.specs.Arithmetic.{arith_row, arith_rows}
+use Rattle.px_semantics.specs.Selections.{broadcast_length_three}
 use Rattle.px_types.specs.Classes.{is_integer_value}
-use Rattle.px_types.specs.Fused.{fused_rows, fused_row, zip3}
-use Rattle.px_types.specs.Rows.{Row, TypedRows, Contents, joined, stretch}
+use Rattle.px_semantics.specs.Fused.{fused_rows, fused_row, zip3}
+use Rattle.px_semantics.specs.Rows.{Row, TypedRows, Contents, broadcast_length, stretch}
 use Rattle.px_types.specs.declared.function.FusedOperator.{FusedOperator}
 use Rattle.px_types.specs.declared.function.FusedOperator.TheVariants.{MultiplyAdd, SubMultiply, MultiplySub}
 use Rattle.px_types.specs.declared.operator.Operator.{Operator}
 use Rattle.px_types.specs.declared.operator.Operator.TheVariants as op
 use Rattle.px_types.specs.declared.value_type.ValueType.{ValueType}
-use Rattle.px_column.proofs.FusedRows.{sum_with_product_columns, difference_with_product_columns, product_with_sum_columns, product_with_difference_columns}
-use Rattle.px_column.specs.FusedLaws.{HaveOneType}
+use Rattle.px_semantics.proofs.FusedRows.{sum_with_product_columns, difference_with_product_columns, product_with_sum_columns, product_with_difference_columns}
+use Rattle.px_semantics.specs.FusedLaws.{HaveOneType}
 use Rattle.px_expr.specs.declared.context.Context.{Context}
 use Rattle.px_expr.specs.Tree.{Alias, Tree, over}
 use Rattle.px_meaning.specs.Faults.{HasFault, own, uneven, of_input, of_first, of_rest, lengths, HasUnevenInputs}
-use Rattle.px_meaning.specs.Mean.{binary_rows, group_rows, of_one, of_three, all_of, rows, joined_all}
+use Rattle.px_meaning.specs.Mean.{binary_rows, group_rows, of_one, of_three, all_of, rows, broadcast_length_all}
 use Rattle.px_meaning.specs.Names.{name}
 use Rattle.px_meaning.specs.Rewrites.{binary, fused_tree}
 use Rattle.px_meaning.specs.Schema.{Fits}
@@ -46,34 +46,34 @@ minus = record { plain = λ a b. refl; keeps = λ j k e. given-parts (is_integer
 times : IsArithmetic op.Multiply
 times = record { plain = λ a b. refl; keeps = λ j k e. given-parts (is_integer_value j) j k e }
 
-abbrev of_kind : ValueType → List Row → TypedRows
-of_kind k rows = record { kind = k; rows = rows }
+abbrev of_type : ValueType → List Row → TypedRows
+of_type k rows = record { value_type = k; rows = rows }
 
 -- columns of one type that arithmetic does not join have lengths that do not
-arith-none : (o : Operator) (a b : TypedRows) → arith_rows o a b ≡ None → joined (length a.rows) (length b.rows) ≡ None
+arith-none : (o : Operator) (a b : TypedRows) → arith_rows o a b ≡ None → broadcast_length (length a.rows) (length b.rows) ≡ None
 unfolding arith_rows
-arith-none o a b e = go (joined (length a.rows) (length b.rows)) e
+arith-none o a b e = go (broadcast_length (length a.rows) (length b.rows)) e
   where
     go :
-        (m : Option ℕ) → option_map (of_kind a.kind) (option_map (λ n. zip2 (arith_row o a.kind) (stretch n a.rows) (stretch n b.rows)) m) ≡ None →
+        (m : Option ℕ) → option_map (of_type a.value_type) (option_map (λ n. zip2 (arith_row o a.value_type) (stretch n a.rows) (stretch n b.rows)) m) ≡ None →
         m ≡ None
     go None e = refl
     go (Some n) e = cc
 
-fused-none : (f : FusedOperator) (a b d : TypedRows) → joined_three (length a.rows) (length b.rows) (length d.rows) ≡ None → fused_rows f a b d ≡ None
+fused-none : (f : FusedOperator) (a b d : TypedRows) → broadcast_length_three (length a.rows) (length b.rows) (length d.rows) ≡ None → fused_rows f a b d ≡ None
 unfolding fused_rows
-fused-none f a b d e = ap (λ (m : Option ℕ). option_map (of_kind a.kind) (option_map (λ n. zip3 (fused_row f a.kind) (stretch n a.rows) (stretch n b.rows) (stretch n d.rows)) m)) e
+fused-none f a b d e = ap (λ (m : Option ℕ). option_map (of_type a.value_type) (option_map (λ n. zip3 (fused_row f a.value_type) (stretch n a.rows) (stretch n b.rows) (stretch n d.rows)) m)) e
 
--- three inputs that mean columns whose lengths do not join
+-- three inputs that mean columns whose lengths do not broadcast
 uneven-three :
     (l m n : Option TypedRows) → HasUnevenInputs (l ∷ m ∷ n ∷ []) →
-    (a : TypedRows) × (b : TypedRows) × (d : TypedRows) × (l ≡ Some a) × (m ≡ Some b) × (n ≡ Some d) × (joined_three (length a.rows) (length b.rows) (length d.rows) ≡ None)
+    (a : TypedRows) × (b : TypedRows) × (d : TypedRows) × (l ≡ Some a) × (m ≡ Some b) × (n ≡ Some d) × (broadcast_length_three (length a.rows) (length b.rows) (length d.rows) ≡ None)
 uneven-three None m n (cols, e, f) = cc
 uneven-three (Some a) None n (cols, e, f) = cc
 uneven-three (Some a) (Some b) None (cols, e, f) = cc
 uneven-three (Some a) (Some b) (Some d) (cols, e, f) =
     let same : a ∷ b ∷ d ∷ [] ≡ cols = cc in
-    (a, b, d, refl, refl, refl, ap (λ (z : List TypedRows). joined_all (lengths z)) same ∙ f)
+    (a, b, d, refl, refl, refl, ap (λ (z : List TypedRows). broadcast_length_all (lengths z)) same ∙ f)
 
 -- an operator of arithmetic over inputs that mean columns, where it means nothing
 binary-uneven : (o : Operator) → IsArithmetic o → (m n : Option TypedRows) (a b : TypedRows) → m ≡ Some a → n ≡ Some b → option_and_then (binary_rows o) (all_of (m ∷ n ∷ [])) ≡ None → HasUnevenInputs (m ∷ n ∷ [])
@@ -82,27 +82,27 @@ binary-uneven o i (Some x) None a b p q e = cc
 binary-uneven o i (Some x) (Some y) a b p q e = (x ∷ y ∷ [], refl, arith-none o x y (sym (i.plain x y) ∙ e))
 
 one_type : (k : ValueType) (a b d : TypedRows) → IsColumnOf k a → IsColumnOf k b → IsColumnOf k d → HaveOneType a b d
-one_type k a b d ha hb hd = (ha.kind ∙ sym hb.kind, hb.kind ∙ sym hd.kind)
+one_type k a b d ha hb hd = (ha.value_type ∙ sym hb.value_type, hb.value_type ∙ sym hd.value_type)
 
 module _ (c : Catalog) (context : Context) (o : Operator) (i : IsArithmetic o) (x y z : Tree) where
   -- the types of a product on the right, and of one on the left
-  right-kinds : (k : ValueType) → Has c (binary o x (binary op.Multiply y z)) k → Has c x k × Has c y k × Has c z k × (is_integer_value k ≡ true)
-  right-kinds k h =
+  right-types : (k : ValueType) → Has c (binary o x (binary op.Multiply y z)) k → Has c x k × Has c y k × Has c z k × (is_integer_value k ≡ true)
+  right-types k h =
       let p = binary-has c o x (binary op.Multiply y z) k h in
-      let (n, same) = i.keeps p.kind k p.gives in
-      let q = binary-has c op.Multiply y z p.kind p.right in
-      let (m, inner) = times.keeps q.kind p.kind q.gives in
+      let (n, same) = i.keeps p.value_type k p.gives in
+      let q = binary-has c op.Multiply y z p.value_type p.right in
+      let (m, inner) = times.keeps q.value_type p.value_type q.gives in
       (subst (Has c x) same p.left, subst (Has c y) (inner ∙ same) q.left, subst (Has c z) (inner ∙ same) q.right, subst (λ (j : ValueType). is_integer_value j ≡ true) same n)
 
-  left-kinds : (k : ValueType) → Has c (binary o (binary op.Multiply x y) z) k → Has c x k × Has c y k × Has c z k × (is_integer_value k ≡ true)
-  left-kinds k h =
+  left-types : (k : ValueType) → Has c (binary o (binary op.Multiply x y) z) k → Has c x k × Has c y k × Has c z k × (is_integer_value k ≡ true)
+  left-types k h =
       let p = binary-has c o (binary op.Multiply x y) z k h in
-      let (n, same) = i.keeps p.kind k p.gives in
-      let q = binary-has c op.Multiply x y p.kind p.left in
-      let (m, inner) = times.keeps q.kind p.kind q.gives in
+      let (n, same) = i.keeps p.value_type k p.gives in
+      let q = binary-has c op.Multiply x y p.value_type p.left in
+      let (m, inner) = times.keeps q.value_type p.value_type q.gives in
       (subst (Has c x) (inner ∙ same) q.left, subst (Has c y) (inner ∙ same) q.right, subst (Has c z) same p.right, subst (λ (j : ValueType). is_integer_value j ≡ true) same n)
 
-  -- where the whole means nothing over inputs that mean columns, the product or the whole has lengths that do not join
+  -- where the whole means nothing over inputs that mean columns, the product or the whole has lengths that do not broadcast
   right-uneven :
       (frame : List Contents) (a b d : TypedRows) → rows c.kernels frame x ≡ Some a → rows c.kernels frame y ≡ Some b → rows c.kernels frame z ≡ Some d →
       rows c.kernels frame (binary o x (binary op.Multiply y z)) ≡ None → HasFault c.kernels frame (binary o x (binary op.Multiply y z)) ShapeMismatch
@@ -149,7 +149,7 @@ module _ (c : Catalog) (context : Context) (o : Operator) (i : IsArithmetic o) (
       LineKeeps c context (binary o x (binary op.Multiply y z)) (fused_tree f x y z)
   right-keeps f law =
       record {
-        kind = λ k h. let (hx, hy, hz, n) = right-kinds k h in has-fused c f x y z k hx hy hz n;
+        value_type = λ k h. let (hx, hy, hz, n) = right-types k h in has-fused c f x y z k hx hy hz n;
         rows = λ k h frame fits. same-rows k h frame fits;
         name = λ k h select. refl;
         faults = λ k h frame fits e g. within k h frame fits e g;
@@ -166,7 +166,7 @@ module _ (c : Catalog) (context : Context) (o : Operator) (i : IsArithmetic o) (
 
       same-rows : (k : ValueType) → Has c (binary o x (binary op.Multiply y z)) k → (frame : List Contents) → Fits frame c.schema → rows c.kernels frame (binary o x (binary op.Multiply y z)) ≡ rows c.kernels frame (fused_tree f x y z)
       same-rows k h frame fits =
-          let (hx, hy, hz, n) = right-kinds k h in
+          let (hx, hy, hz, n) = right-types k h in
           go k (rows c.kernels frame x) (rows c.kernels frame y) (rows c.kernels frame z) (λ v e. rows-typed c frame fits x k hx v e) (λ v e. rows-typed c frame fits y k hy v e) (λ v e. rows-typed c frame fits z k hz v e)
 
       within :
@@ -190,7 +190,7 @@ module _ (c : Catalog) (context : Context) (o : Operator) (i : IsArithmetic o) (
       LineKeeps c context (binary o (binary op.Multiply x y) z) (fused_tree f x y z)
   left-keeps f law =
       record {
-        kind = λ k h. let (hx, hy, hz, n) = left-kinds k h in has-fused c f x y z k hx hy hz n;
+        value_type = λ k h. let (hx, hy, hz, n) = left-types k h in has-fused c f x y z k hx hy hz n;
         rows = λ k h frame fits. same-rows k h frame fits;
         name = λ k h select. refl;
         faults = λ k h frame fits e g. within k h frame fits e g;
@@ -207,7 +207,7 @@ module _ (c : Catalog) (context : Context) (o : Operator) (i : IsArithmetic o) (
 
       same-rows : (k : ValueType) → Has c (binary o (binary op.Multiply x y) z) k → (frame : List Contents) → Fits frame c.schema → rows c.kernels frame (binary o (binary op.Multiply x y) z) ≡ rows c.kernels frame (fused_tree f x y z)
       same-rows k h frame fits =
-          let (hx, hy, hz, n) = left-kinds k h in
+          let (hx, hy, hz, n) = left-types k h in
           go k (rows c.kernels frame x) (rows c.kernels frame y) (rows c.kernels frame z) (λ v e. rows-typed c frame fits x k hx v e) (λ v e. rows-typed c frame fits y k hy v e) (λ v e. rows-typed c frame fits z k hz v e)
 
       within :
@@ -231,7 +231,7 @@ module _ (c : Catalog) (context : Context) (o : Operator) (i : IsArithmetic o) (
       LineKeeps c context (binary o (binary op.Multiply x y) z) (over (Alias (name (binary op.Multiply x y))) (fused_tree f z x y ∷ []))
   turned-keeps f law =
       record {
-        kind = λ k h. let (hx, hy, hz, n) = left-kinds k h in has-alias c (name (binary op.Multiply x y)) (fused_tree f z x y) k (has-fused c f z x y k hz hx hy n);
+        value_type = λ k h. let (hx, hy, hz, n) = left-types k h in has-alias c (name (binary op.Multiply x y)) (fused_tree f z x y) k (has-fused c f z x y k hz hx hy n);
         rows = λ k h frame fits. same-rows k h frame fits ∙ sym (aliased (rows c.kernels frame (fused_tree f z x y)));
         name = λ k h select. refl;
         faults = λ k h frame fits e g. named k h frame fits e g;
@@ -252,7 +252,7 @@ module _ (c : Catalog) (context : Context) (o : Operator) (i : IsArithmetic o) (
 
       same-rows : (k : ValueType) → Has c (binary o (binary op.Multiply x y) z) k → (frame : List Contents) → Fits frame c.schema → rows c.kernels frame (binary o (binary op.Multiply x y) z) ≡ rows c.kernels frame (fused_tree f z x y)
       same-rows k h frame fits =
-          let (hx, hy, hz, n) = left-kinds k h in
+          let (hx, hy, hz, n) = left-types k h in
           go k (rows c.kernels frame x) (rows c.kernels frame y) (rows c.kernels frame z) (λ v e. rows-typed c frame fits x k hx v e) (λ v e. rows-typed c frame fits y k hy v e) (λ v e. rows-typed c frame fits z k hz v e)
 
       within :

@@ -3,26 +3,26 @@ use Rattle.std.proofs.Common.{◌≡◌, ◌⊎◌, inl, inr, ◌&&◌, ◌||◌
 use Rattle.std.specs.Prelude.{option_map, option_and_then, max, ◌*◌}
 use Rattle.std.proofs.lemmas.Int.{ints}
 use Rattle.px_base.specs.declared.error.PlanError.TheVariants.{InvalidOperation}
-use Rattle.px_types.proofs.CastLemmas.{holds_decides}
+use Rattle.px_semantics.proofs.CastLemmas.{holds_decides}
 use Rattle.px_types.proofs.CommonTypes.{value_type_of-dtype_of, common-null, common-same}
 use Rattle.std.proofs.lemmas.List.{length-map}
-use Rattle.px_types.specs.Classes.{is_number, is_integer_value, is_unsigned_value}
+use Rattle.px_types.specs.Classes.{is_boolean_or_integer, is_integer_value, is_unsigned_value}
 use Rattle.px_types.specs.Integers.{InRange}
-use Rattle.px_types.specs.Rows.{Integer}
-use Rattle.px_types.specs.ValueTypes.{holds, default_type, common, common_dtype, common_family, family_of, type_of_family, value_type_of, dtype_of, Family, Nulls, Truths, Texts, Unsigned, Signed}
+use Rattle.px_semantics.specs.Rows.{Integer}
+use Rattle.px_types.specs.ValueTypes.{holds, default_type, common, common_dtype, common_family, family_of, type_of_family, value_type_of, dtype_of, Family, Nulls, BooleanArray, StringArray, Unsigned, Signed}
 use Rattle.px_types.specs.declared.dtype.DataType.{out-DataType}
 use Rattle.px_types.specs.declared.dtype.DataType.TheVariants as dtype
-use Rattle.px_types.specs.declared.kinds.CastOptions.TheVariants.{NonStrict}
+use Rattle.px_types.specs.declared.type_parts.CastOptions.TheVariants.{NonStrict}
 use Rattle.px_types.specs.declared.function.BooleanFunction.TheVariants.{IsNull, IsNotNull, Not}
 use Rattle.px_types.specs.declared.function.FunctionExpr.{FunctionExpr}
 use Rattle.px_types.specs.declared.function.FunctionExpr.TheVariants as function
 use Rattle.px_types.specs.declared.value_type.ValueType.{ValueType}
-use Rattle.px_types.specs.declared.value_type.ValueType.TheVariants as kind
+use Rattle.px_types.specs.declared.value_type.ValueType.TheVariants as value_type
 use Rattle.px_expr.specs.declared.literal.LiteralValue.{LiteralValue}
 use Rattle.px_expr.specs.declared.literal.LiteralValue.TheVariants as lit
 use Rattle.px_expr.specs.Tree.{Node, Alias, Column, Literal, Binary, Cast, Ternary, Function, Tree, tree, Trees, none, more, trees, fold_trees}
-use Rattle.px_types.specs.Columns.{is_boolean, is_column}
-use Rattle.px_meaning.specs.Check.{Typed, Found, Checked, Untyped, then_, gathered, or_fault, operand_of, literal, cast_tree, default_literal, coerced, coerced_all, resolve, made, deferred, settled_or, find, found, settled, check, HasKind}
+use Rattle.px_semantics.specs.Columns.{is_boolean, is_column}
+use Rattle.px_meaning.specs.Check.{Typed, Found, Checked, Untyped, then_, all_results, or_fault, operand_of, literal, cast_tree, default_literal, coerced, coerced_all, resolve, made, deferred, with_default_type_or, find, found, with_default_type, check, HasType}
 use Rattle.px_meaning.specs.Literals.{literal_of, literal_rows}
 use Rattle.px_expr.specs.Plan.{Catalog}
 use Rattle.px_meaning.specs.Signatures.{Operand, Known, Free, Signature, signature, leaf, own_type, unary, uniting, united, of_united, any_type, cast_type, truth_type, number_type, signed_type, integer_type, group_type, group_of, Group, Arithmetic, Comparison, Bitwise, Logical, Fractional, function_signature, ternary_signature, literal_type, masked, is_mask, is_type, is_castable, given, common_of, common_all, known_types, wanted_types, widened}
@@ -30,7 +30,7 @@ use Rattle.px_meaning.proofs.Answers.{from_option, then_-parts, given-parts}
 use Rattle.px_meaning.proofs.FoldLines.{has-scalar, folded-scalar}
 use Rattle.px_meaning.proofs.Shapes.{and_then-parts, map-parts, unary-parts, uniting-parts, ternary-parts, leaf-parts}
 use Rattle.px_meaning.proofs.Types.{Takes}
-use Rattle.px_meaning.proofs.Typing.{Has, HaveAll, has, have_none, have_more, at_node, typed, is_type-is, is_type-of, deferred-untyped, default-holds, column-parts, Has-HasKind}
+use Rattle.px_meaning.proofs.Typing.{Has, HaveAll, has, have_none, have_more, at_node, typed, is_type-is, is_type-of, deferred-untyped, default-holds, column-parts, Has-HasType}
 
 -- the type is one of the core language
 abbrev IsCore : ValueType → Type 0
@@ -39,29 +39,29 @@ IsCore k = is_castable k ≡ true
 -- an integer that some type holds has a default type
 holds-default : (k : ValueType) (z : ℤ) → holds k z ≡ true → (d : ValueType) × (default_type z ≡ Some d)
 unfolding default_type
-holds-default k z e = go (holds kind.Int32 z) (holds kind.Int64 z) (holds kind.UInt64 z) refl refl refl
+holds-default k z e = go (holds value_type.Int32 z) (holds value_type.Int64 z) (holds value_type.UInt64 z) refl refl refl
   where
-    within : (k : ValueType) → InRange k z → (InRange kind.Int64 z) ⊎ (InRange kind.UInt64 z)
-    within kind.Null h = absurd h
-    within kind.Boolean h = absurd h
-    within kind.String h = absurd h
-    within kind.UInt8 h = inr (omega (arith, ints), omega (arith, ints))
-    within kind.UInt16 h = inr (omega (arith, ints), omega (arith, ints))
-    within kind.UInt32 h = inr (omega (arith, ints), omega (arith, ints))
-    within kind.UInt64 h = inr h
-    within kind.Int8 h = inl (grind (arith, ints, h))
-    within kind.Int16 h = inl (grind (arith, ints, h))
-    within kind.Int32 h = inl (grind (arith, ints, h))
-    within kind.Int64 h = inl h
+    within : (k : ValueType) → InRange k z → (InRange value_type.Int64 z) ⊎ (InRange value_type.UInt64 z)
+    within value_type.Null h = absurd h
+    within value_type.Boolean h = absurd h
+    within value_type.String h = absurd h
+    within value_type.UInt8 h = inr (omega (arith, ints), omega (arith, ints))
+    within value_type.UInt16 h = inr (omega (arith, ints), omega (arith, ints))
+    within value_type.UInt32 h = inr (omega (arith, ints), omega (arith, ints))
+    within value_type.UInt64 h = inr h
+    within value_type.Int8 h = inl (grind (arith, ints, h))
+    within value_type.Int16 h = inl (grind (arith, ints, h))
+    within value_type.Int32 h = inl (grind (arith, ints, h))
+    within value_type.Int64 h = inl h
 
-    neither : holds kind.Int64 z ≡ false → holds kind.UInt64 z ≡ false → (InRange kind.Int64 z) ⊎ (InRange kind.UInt64 z) → ⊥
-    neither a b (inl h) = let c : holds kind.Int64 z ≡ true = (holds_decides kind.Int64 z).1 h in cc
-    neither a b (inr h) = let c : holds kind.UInt64 z ≡ true = (holds_decides kind.UInt64 z).1 h in cc
+    neither : holds value_type.Int64 z ≡ false → holds value_type.UInt64 z ≡ false → (InRange value_type.Int64 z) ⊎ (InRange value_type.UInt64 z) → ⊥
+    neither a b (inl h) = let c : holds value_type.Int64 z ≡ true = (holds_decides value_type.Int64 z).1 h in cc
+    neither a b (inr h) = let c : holds value_type.UInt64 z ≡ true = (holds_decides value_type.UInt64 z).1 h in cc
 
-    go : (a b u : Bool) → holds kind.Int32 z ≡ a → holds kind.Int64 z ≡ b → holds kind.UInt64 z ≡ u → (d : ValueType) × (cond a (Some kind.Int32) (cond b (Some kind.Int64) (cond u (Some kind.UInt64) None)) ≡ Some d)
-    go true b u p q r = (kind.Int32, refl)
-    go false true u p q r = (kind.Int64, refl)
-    go false false true p q r = (kind.UInt64, refl)
+    go : (a b u : Bool) → holds value_type.Int32 z ≡ a → holds value_type.Int64 z ≡ b → holds value_type.UInt64 z ≡ u → (d : ValueType) × (cond a (Some value_type.Int32) (cond b (Some value_type.Int64) (cond u (Some value_type.UInt64) None)) ≡ Some d)
+    go true b u p q r = (value_type.Int32, refl)
+    go false true u p q r = (value_type.Int64, refl)
+    go false false true p q r = (value_type.UInt64, refl)
     go false false false p q r = absurd (neither q r (within k ((holds_decides k z).0 e)))
 
 -- a default type is an integer type
@@ -70,31 +70,31 @@ unfolding holds
 default-core z d e = go d (default-holds z d e)
   where
     go : (d : ValueType) → holds d z ≡ true → is_castable d ≡ true
-    go kind.String h = cc
+    go value_type.String h = cc
     go _ h = refl
 
 -- the common type of core types is one
 abbrev family-core : Family → Type 0
-family-core Texts = ⊥
+family-core StringArray = ⊥
 family-core _ = Unit {0}
 
 of_family-core : (k : ValueType) → IsCore k → family-core (family_of k)
-of_family-core kind.String e = cc
+of_family-core value_type.String e = cc
 of_family-core _ e = tt
 
 common-family-core : (a b f : Family) → family-core a → family-core b → common_family a b ≡ Some f → family-core f
 common-family-core Nulls b f p q e = let same : b ≡ f = cc in subst family-core same q
-common-family-core Truths Nulls f p q e = let same : Truths ≡ f = cc in subst family-core same tt
-common-family-core Truths Truths f p q e = let same : Truths ≡ f = cc in subst family-core same tt
-common-family-core Truths (Unsigned n) f p q e = let same : Unsigned n ≡ f = cc in subst family-core same tt
-common-family-core Truths (Signed n) f p q e = let same : Signed n ≡ f = cc in subst family-core same tt
-common-family-core Truths Texts f p q e = absurd q
-common-family-core Texts b f p q e = absurd p
-common-family-core a Texts f p q e = absurd q
+common-family-core BooleanArray Nulls f p q e = let same : BooleanArray ≡ f = cc in subst family-core same tt
+common-family-core BooleanArray BooleanArray f p q e = let same : BooleanArray ≡ f = cc in subst family-core same tt
+common-family-core BooleanArray (Unsigned n) f p q e = let same : Unsigned n ≡ f = cc in subst family-core same tt
+common-family-core BooleanArray (Signed n) f p q e = let same : Signed n ≡ f = cc in subst family-core same tt
+common-family-core BooleanArray StringArray f p q e = absurd q
+common-family-core StringArray b f p q e = absurd p
+common-family-core a StringArray f p q e = absurd q
 common-family-core (Unsigned m) Nulls f p q e = let same : Unsigned m ≡ f = cc in subst family-core same tt
-common-family-core (Unsigned m) Truths f p q e = let same : Unsigned m ≡ f = cc in subst family-core same tt
+common-family-core (Unsigned m) BooleanArray f p q e = let same : Unsigned m ≡ f = cc in subst family-core same tt
 common-family-core (Signed m) Nulls f p q e = let same : Signed m ≡ f = cc in subst family-core same tt
-common-family-core (Signed m) Truths f p q e = let same : Signed m ≡ f = cc in subst family-core same tt
+common-family-core (Signed m) BooleanArray f p q e = let same : Signed m ≡ f = cc in subst family-core same tt
 common-family-core (Unsigned m) (Unsigned n) f p q e = let same : Unsigned (max m n) ≡ f = cc in subst family-core same tt
 common-family-core (Unsigned m) (Signed n) f p q e = let same : Signed (max (2 * m) n) ≡ f = cc in subst family-core same tt
 common-family-core (Signed m) (Unsigned n) f p q e = let same : Signed (max m (2 * n)) ≡ f = cc in subst family-core same tt
@@ -104,23 +104,23 @@ named-core : (j k : ValueType) → IsCore j → value_type_of (dtype_of j) ≡ S
 named-core j k c e = let f : Some j ≡ Some k = sym (value_type_of-dtype_of j) ∙ e in let same : j ≡ k = cc in subst IsCore same c
 
 unsigned-core : (p q r : Bool) (k : ValueType) → value_type_of (cond p dtype.UInt8 (cond q dtype.UInt16 (cond r dtype.UInt32 dtype.UInt64))) ≡ Some k → IsCore k
-unsigned-core true q r k e = named-core kind.UInt8 k refl e
-unsigned-core false true r k e = named-core kind.UInt16 k refl e
-unsigned-core false false true k e = named-core kind.UInt32 k refl e
-unsigned-core false false false k e = named-core kind.UInt64 k refl e
+unsigned-core true q r k e = named-core value_type.UInt8 k refl e
+unsigned-core false true r k e = named-core value_type.UInt16 k refl e
+unsigned-core false false true k e = named-core value_type.UInt32 k refl e
+unsigned-core false false false k e = named-core value_type.UInt64 k refl e
 
 signed-core : (p q r s : Bool) (k : ValueType) → value_type_of (cond p dtype.Int8 (cond q dtype.Int16 (cond r dtype.Int32 (cond s dtype.Int64 dtype.Float64)))) ≡ Some k → IsCore k
 unfolding out-DataType denote.Hole.Carrier.out
-signed-core true q r s k e = named-core kind.Int8 k refl e
-signed-core false true r s k e = named-core kind.Int16 k refl e
-signed-core false false true s k e = named-core kind.Int32 k refl e
-signed-core false false false true k e = named-core kind.Int64 k refl e
+signed-core true q r s k e = named-core value_type.Int8 k refl e
+signed-core false true r s k e = named-core value_type.Int16 k refl e
+signed-core false false true s k e = named-core value_type.Int32 k refl e
+signed-core false false false true k e = named-core value_type.Int64 k refl e
 signed-core false false false false k e = cc
 
 typed-core : (f : Family) (k : ValueType) → family-core f → value_type_of (type_of_family f) ≡ Some k → IsCore k
-typed-core Nulls k c e = named-core kind.Null k refl e
-typed-core Truths k c e = named-core kind.Boolean k refl e
-typed-core Texts k c e = absurd c
+typed-core Nulls k c e = named-core value_type.Null k refl e
+typed-core BooleanArray k c e = named-core value_type.Boolean k refl e
+typed-core StringArray k c e = absurd c
 typed-core (Unsigned n) k c e = unsigned-core (n == 8) (n == 16) (n == 32) k e
 typed-core (Signed n) k c e = signed-core (n == 8) (n == 16) (n == 32) (n == 64) k e
 
@@ -213,7 +213,7 @@ wanted-defaults base a (Free z ∷ os) k e = go (holds base z) refl (λ b f. wan
 -- the type to which core operands unite is core, and each integer literal among them has a default type
 united-core : (os : List Operand) (k : ValueType) → AreCoreOperands os → united os ≡ Some k → IsCore k × HaveDefaults os
 unfolding united
-united-core os k h e = go (common_all (Some kind.Null) (known_types os)) (common_all-core (Some kind.Null) (known_types os) refl (known-core os h)) e
+united-core os k h e = go (common_all (Some value_type.Null) (known_types os)) (common_all-core (Some value_type.Null) (known_types os) refl (known-core os h)) e
   where
     core : (o : Option ValueType) → IsCoreOr o → o ≡ Some k → IsCore k
     core (Some j) p f = let same : j ≡ k = cc in subst IsCore same p
@@ -265,11 +265,11 @@ module _ (result : ValueType → Option ValueType) (core : (j k : ValueType) →
   unary-settles : (os : List Operand) (s : Signature) → AreCoreOperands os → unary result os ≡ Some s → Settles (unary result) os s
   unary-settles os s h e =
       let p = unary-parts result os s e in
-      let (coerce, c) = own-coercible p.operand p.kind (subst AreCoreOperands p.one h).0 p.own in
-      let again : unary result (Known p.kind ∷ []) ≡ Some (signed (p.kind ∷ []) s.result) = ap (option_map (λ r. signed (p.kind ∷ []) r)) p.gives in
-      let made : Settles (unary result) (p.operand ∷ []) (signed (p.kind ∷ []) s.result) = record { coercible = (coerce, tt); again = again; core = core p.kind s.result c p.gives } in
-      subst (λ (z : Signature). Settles (unary result) os z) (whole s (p.kind ∷ []) p.takes)
-      (subst (λ (z : List Operand). Settles (unary result) z (signed (p.kind ∷ []) s.result)) (sym p.one) made)
+      let (coerce, c) = own-coercible p.operand p.value_type (subst AreCoreOperands p.one h).0 p.own in
+      let again : unary result (Known p.value_type ∷ []) ≡ Some (signed (p.value_type ∷ []) s.result) = ap (option_map (λ r. signed (p.value_type ∷ []) r)) p.gives in
+      let made : Settles (unary result) (p.operand ∷ []) (signed (p.value_type ∷ []) s.result) = record { coercible = (coerce, tt); again = again; core = core p.value_type s.result c p.gives } in
+      subst (λ (z : Signature). Settles (unary result) os z) (whole s (p.value_type ∷ []) p.takes)
+      (subst (λ (z : List Operand). Settles (unary result) z (signed (p.value_type ∷ []) s.result)) (sym p.one) made)
 
   same-known : (k : ValueType) (os : List Operand) → common_all (Some k) (known_types (map Known (map (λ _. k) os))) ≡ Some k
   same-known k [] = refl
@@ -293,15 +293,15 @@ module _ (result : ValueType → Option ValueType) (core : (j k : ValueType) →
   uniting-settles : (count : ℕ) → (0 == count) ≡ false → (os : List Operand) (s : Signature) → AreCoreOperands os → uniting count result os ≡ Some s → Settles (uniting count result) os s
   uniting-settles count some os s h e =
       let p = uniting-parts count result os s e in
-      let (c, defaults) = united-core os p.kind h p.unites in
-      let ks : List ValueType = map (λ _. p.kind) os in
-      let many : (length (map Known ks) == count) ≡ true = ap (λ (n : ℕ). n == count) (length-map ks Known ∙ length-map os (λ _. p.kind)) ∙ p.many in
-      let unites : united (map Known ks) ≡ Some p.kind = nonempty os p.many in
+      let (c, defaults) = united-core os p.value_type h p.unites in
+      let ks : List ValueType = map (λ _. p.value_type) os in
+      let many : (length (map Known ks) == count) ≡ true = ap (λ (n : ℕ). n == count) (length-map ks Known ∙ length-map os (λ _. p.value_type)) ∙ p.many in
+      let unites : united (map Known ks) ≡ Some p.value_type = nonempty os p.many in
       let again : uniting count result (map Known ks) ≡ Some (signed ks s.result) =
       ap (λ (b : Bool). cond b (option_and_then (of_united result (map Known ks)) (united (map Known ks))) None) many
       ∙ (ap (option_and_then (of_united result (map Known ks))) unites
-      ∙ (ap (option_map (λ r. signed (map (λ _. p.kind) (map Known ks)) r)) p.gives ∙ ap (λ (z : List ValueType). Some (signed z s.result)) (same-many p.kind os))) in
-      let made : Settles (uniting count result) os (signed ks s.result) = record { coercible = united-coercible p.kind c os h defaults; again = again; core = core p.kind s.result c p.gives } in
+      ∙ (ap (option_map (λ r. signed (map (λ _. p.value_type) (map Known ks)) r)) p.gives ∙ ap (λ (z : List ValueType). Some (signed z s.result)) (same-many p.value_type os))) in
+      let made : Settles (uniting count result) os (signed ks s.result) = record { coercible = united-coercible p.value_type c os h defaults; again = again; core = core p.value_type s.result c p.gives } in
       subst (λ (z : Signature). Settles (uniting count result) os z) (whole s ks p.takes) made
     where
       nonempty : {k : ValueType} (os : List Operand) → (length os == count) ≡ true → united (map Known (map (λ _. k) os)) ≡ Some k
@@ -315,12 +315,12 @@ given-core : (b : Bool) (j k : ValueType) → IsCore j → given b j ≡ Some k 
 given-core b j k c e = subst IsCore (given-parts b j k e).1 c
 
 truth-core : (j k : ValueType) → IsCore j → truth_type j ≡ Some k → IsCore k
-truth-core j k c e = let same : kind.Boolean ≡ k = cc in subst IsCore same refl
+truth-core j k c e = let same : value_type.Boolean ≡ k = cc in subst IsCore same refl
 
 group-core : (g : Group) (j k : ValueType) → IsCore j → group_type g j ≡ Some k → IsCore k
 group-core Arithmetic j k c e = given-core (is_integer_value j) j k c e
 group-core Comparison j k c e = truth-core j k c e
-group-core Bitwise j k c e = given-core (is_number j) j k c e
+group-core Bitwise j k c e = given-core (is_boolean_or_integer j) j k c e
 group-core Logical j k c e = given-core (is_boolean j) j k c e
 group-core Fractional j k c e = cc
 
@@ -337,25 +337,25 @@ cast-core (Some to) j k c e =
 cast-core None j k c e = cc
 
 literal-core : (v : LiteralValue) (k : ValueType) → literal_type (literal_rows v) ≡ Some k → IsCore k
-literal-core lit.Null k e = given-core _ kind.Null k refl e
-literal-core (lit.Series d) k e = go (is_number d.values.kind) refl e
+literal-core lit.Null k e = given-core _ value_type.Null k refl e
+literal-core (lit.Series d) k e = go (is_boolean_or_integer d.values.value_type) refl e
   where
-    castable : (j : ValueType) → is_number j ≡ true → is_castable j ≡ true
-    castable kind.Null f = refl
+    castable : (j : ValueType) → is_boolean_or_integer j ≡ true → is_castable j ≡ true
+    castable value_type.Null f = refl
     castable j f = f
 
-    go : (b : Bool) → is_number d.values.kind ≡ b → literal_type (cond b (Some d.values) None) ≡ Some k → IsCore k
-    go true f g = given-core (is_column d.values) d.values.kind k (castable d.values.kind f) g
+    go : (b : Bool) → is_boolean_or_integer d.values.value_type ≡ b → literal_type (cond b (Some d.values) None) ≡ Some k → IsCore k
+    go true f g = given-core (is_column d.values) d.values.value_type k (castable d.values.value_type f) g
     go false f g = cc
-literal-core (lit.Boolean t) k e = given-core _ kind.Boolean k refl e
-literal-core (lit.UInt8 n) k e = given-core _ kind.UInt8 k refl e
-literal-core (lit.UInt16 n) k e = given-core _ kind.UInt16 k refl e
-literal-core (lit.UInt32 n) k e = given-core _ kind.UInt32 k refl e
-literal-core (lit.UInt64 n) k e = given-core _ kind.UInt64 k refl e
-literal-core (lit.Int8 n) k e = given-core _ kind.Int8 k refl e
-literal-core (lit.Int16 n) k e = given-core _ kind.Int16 k refl e
-literal-core (lit.Int32 n) k e = given-core _ kind.Int32 k refl e
-literal-core (lit.Int64 n) k e = given-core _ kind.Int64 k refl e
+literal-core (lit.Boolean t) k e = given-core _ value_type.Boolean k refl e
+literal-core (lit.UInt8 n) k e = given-core _ value_type.UInt8 k refl e
+literal-core (lit.UInt16 n) k e = given-core _ value_type.UInt16 k refl e
+literal-core (lit.UInt32 n) k e = given-core _ value_type.UInt32 k refl e
+literal-core (lit.UInt64 n) k e = given-core _ value_type.UInt64 k refl e
+literal-core (lit.Int8 n) k e = given-core _ value_type.Int8 k refl e
+literal-core (lit.Int16 n) k e = given-core _ value_type.Int16 k refl e
+literal-core (lit.Int32 n) k e = given-core _ value_type.Int32 k refl e
+literal-core (lit.Int64 n) k e = given-core _ value_type.Int64 k refl e
 literal-core _ k e = cc
 
 literal-settles : (v : LiteralValue) (os : List Operand) (s : Signature) → option_and_then (λ k. leaf k os) (literal_type (literal_rows v)) ≡ Some s → Settles (λ os. option_and_then (λ k. leaf k os) (literal_type (literal_rows v))) os s
@@ -372,18 +372,18 @@ ternary-settles os s h e =
     let made : Settles ternary_signature (p.mask ∷ p.branches) (masked p.inner) = record { coercible = (mask p.mask cores.0 p.masks, q.coercible); again = ap (option_map masked) q.again; core = q.core } in
     subst (λ (z : Signature). Settles ternary_signature os z) (sym p.whole) (subst (λ (z : List Operand). Settles ternary_signature z (masked p.inner)) (sym p.are) made)
   where
-    mask : (o : Operand) → IsCoreOperand o → is_mask (own_type o) ≡ true → IsCoercible o kind.Boolean
+    mask : (o : Operand) → IsCoreOperand o → is_mask (own_type o) ≡ true → IsCoercible o value_type.Boolean
     mask (Known k) c m = inr (c, refl)
     mask (Free z) c m = go (default_type z) refl m
       where
-        go : (o : Option ValueType) → default_type z ≡ o → is_mask o ≡ true → ((d : ValueType) × (default_type z ≡ Some d)) × IsCore kind.Boolean
+        go : (o : Option ValueType) → default_type z ≡ o → is_mask o ≡ true → ((d : ValueType) × (default_type z ≡ Some d)) × IsCore value_type.Boolean
         go (Some d) f g = ((d, f), refl)
         go None f g = cc
 
 function-settles : (f : FunctionExpr) (os : List Operand) (s : Signature) → AreCoreOperands os → function_signature f os ≡ Some s → Settles (function_signature f) os s
 function-settles (function.Boolean IsNull) os s h e = unary-settles truth_type truth-core os s h e
 function-settles (function.Boolean IsNotNull) os s h e = unary-settles truth_type truth-core os s h e
-function-settles (function.Boolean Not) os s h e = unary-settles number_type (λ j k c g. given-core (is_number j) j k c g) os s h e
+function-settles (function.Boolean Not) os s h e = unary-settles number_type (λ j k c g. given-core (is_boolean_or_integer j) j k c g) os s h e
 function-settles function.Negate os s h e = unary-settles signed_type (λ j k c g. given-core (is_integer_value j && not (is_unsigned_value j)) j k c g) os s h e
 function-settles (function.Fused f) os s h e = uniting-settles integer_type (λ j k c g. given-core (is_integer_value j) j k c g) 3 refl os s h e
 
@@ -396,9 +396,9 @@ record Resolves (c : Catalog) (n : Node) (os : List Operand) (s : Signature) : T
 column-resolves : (c : Catalog) (m : List ℕ) (os : List Operand) (s : Signature) → resolve c (Column m) os ≡ Ok s → Resolves c (Column m) os s
 column-resolves c m os s e =
     let p = column-parts c m os s e in
-    let at : resolve c (Column m) [] ≡ Ok (signed [] p.kind) = subst (λ (z : Signature). resolve c (Column m) [] ≡ Ok z) p.whole (subst (λ (z : List Operand). resolve c (Column m) z ≡ Ok s) p.alone e) in
-    let made : Resolves c (Column m) [] (signed [] p.kind) = record { coercible = tt; takes = at; core = p.core } in
-    subst (λ (z : Signature). Resolves c (Column m) os z) (sym p.whole) (subst (λ (z : List Operand). Resolves c (Column m) z (signed [] p.kind)) (sym p.alone) made)
+    let at : resolve c (Column m) [] ≡ Ok (signed [] p.value_type) = subst (λ (z : Signature). resolve c (Column m) [] ≡ Ok z) p.whole (subst (λ (z : List Operand). resolve c (Column m) z ≡ Ok s) p.alone e) in
+    let made : Resolves c (Column m) [] (signed [] p.value_type) = record { coercible = tt; takes = at; core = p.core } in
+    subst (λ (z : Signature). Resolves c (Column m) os z) (sym p.whole) (subst (λ (z : List Operand). Resolves c (Column m) z (signed [] p.value_type)) (sym p.alone) made)
 
 resolves : (c : Catalog) (n : Node) (os : List Operand) (s : Signature) → AreCoreOperands os → resolve c n os ≡ Ok s → Resolves c n os s
 unfolding signature
@@ -440,7 +440,7 @@ takes-cast c j k h =
 module _ (c : Catalog) where
   -- what is found is checked, and of a core type
   abbrev IsSound : Found → Type 0
-  IsSound (Checked v) = Has c v.tree v.kind × IsCore v.kind
+  IsSound (Checked v) = Has c v.tree v.value_type × IsCore v.value_type
   IsSound (Untyped z) = Unit {0}
 
   abbrev AreSound : List Found → Type 0
@@ -463,11 +463,11 @@ module _ (c : Catalog) where
 
   -- an input that is made what a signature wants is checked, with that type
   coerced-has : (k : ValueType) (f : Found) → IsSound f → IsCoercible (operand_of f) k → Has c (coerced k f) k
-  coerced-has k (Checked v) (h, core) may = go (is_type v.kind k) refl
+  coerced-has k (Checked v) (h, core) may = go (is_type v.value_type k) refl
     where
-      go : (b : Bool) → is_type v.kind k ≡ b → Has c (cond b v.tree (cast_tree k v.tree)) k
-      go true e = subst (Has c v.tree) (is_type-is v.kind k e) h
-      go false e = has refl (have_more h have_none) (takes-cast c v.kind k may)
+      go : (b : Bool) → is_type v.value_type k ≡ b → Has c (cond b v.tree (cast_tree k v.tree)) k
+      go true e = subst (Has c v.tree) (is_type-is v.value_type k e) h
+      go false e = has refl (have_more h have_none) (takes-cast c v.value_type k may)
   coerced-has k (Untyped z) h ((d, e), core) = go (holds k z) refl
     where
       go : (b : Bool) → holds k z ≡ b → Has c (cond b (literal (literal_of k z)) (cast_tree k (default_literal z (default_type z)))) k
@@ -480,9 +480,9 @@ module _ (c : Catalog) where
   coerced-all [] (f ∷ fs) h may = absurd may
   coerced-all (k ∷ ks) [] h may = absurd may
 
-  node-sound : (n : Node) (us : Trees) (f : Found) → ((fs : List Found) → gathered (fold_trees (find c) us) ≡ Ok fs → AreSound fs) → found c (tree n us) ≡ Ok f → IsSound f
+  node-sound : (n : Node) (us : Trees) (f : Found) → ((fs : List Found) → all_results (fold_trees (find c) us) ≡ Ok fs → AreSound fs) → found c (tree n us) ≡ Ok f → IsSound f
   node-sound n us f inner e =
-      let (fs, g, h) = then_-parts (gathered (fold_trees (find c) us)) (at_node c n) f e in
+      let (fs, g, h) = then_-parts (all_results (fold_trees (find c) us)) (at_node c n) f e in
       go fs (inner fs g) (deferred n) refl h
     where
       over_sound : (fs : List Found) (s : Signature) → AreSound fs → deferred n ≡ None → resolve c n (map operand_of fs) ≡ Ok s → IsSound (made n fs s)
@@ -490,7 +490,7 @@ module _ (c : Catalog) where
           let p = resolves c n (map operand_of fs) s (sound-operands fs sound) r in
           (has free (coerced-all s.inputs fs sound p.coercible) p.takes, p.core)
 
-      go : (fs : List Found) → AreSound fs → (d : Option Found) → deferred n ≡ d → settled_or d (then_ (resolve c n (map operand_of fs)) (λ s. Ok (made n fs s))) ≡ Ok f → IsSound f
+      go : (fs : List Found) → AreSound fs → (d : Option Found) → deferred n ≡ d → with_default_type_or d (then_ (resolve c n (map operand_of fs)) (λ s. Ok (made n fs s))) ≡ Ok f → IsSound f
       go fs sound (Some x) q r =
           let (z, untyped) = deferred-untyped n x q in
           let same : x ≡ f = cc in
@@ -504,26 +504,26 @@ module _ (c : Catalog) where
     found-sound : (t : Tree) (f : Found) → found c t ≡ Ok f → IsSound f
     found-sound (tree n us) f e = node-sound n us f (inputs-sound us) e
 
-    inputs-sound : (us : Trees) (fs : List Found) → gathered (fold_trees (find c) us) ≡ Ok fs → AreSound fs
+    inputs-sound : (us : Trees) (fs : List Found) → all_results (fold_trees (find c) us) ≡ Ok fs → AreSound fs
     inputs-sound none fs e = let same : [] ≡ fs = cc in subst AreSound same tt
     inputs-sound (more u us) fs e =
-        let (f, g, h) = then_-parts (found c u) (λ a. then_ (gathered (fold_trees (find c) us)) (λ as'. Ok (a ∷ as'))) fs e in
-        let (gs, i, j) = then_-parts (gathered (fold_trees (find c) us)) (λ as'. Ok (f ∷ as')) fs h in
+        let (f, g, h) = then_-parts (found c u) (λ a. then_ (all_results (fold_trees (find c) us)) (λ as'. Ok (a ∷ as'))) fs e in
+        let (gs, i, j) = then_-parts (all_results (fold_trees (find c) us)) (λ as'. Ok (f ∷ as')) fs h in
         let same : f ∷ gs ≡ fs = cc in
         subst AreSound same (found-sound u f g, inputs-sound us gs i)
 
   -- what the check gives is checked
-  pub check-gives : (t : Tree) (v : Typed) → check c t ≡ Ok v → HasKind c v.tree v.kind
+  pub check-gives : (t : Tree) (v : Typed) → check c t ≡ Ok v → HasType c v.tree v.value_type
   check-gives t v e =
-      let (f, g, h) = then_-parts (found c t) settled v e in
-      Has-HasKind c v.tree v.kind (go f (found-sound t f g) h)
+      let (f, g, h) = then_-parts (found c t) with_default_type v e in
+      Has-HasType c v.tree v.value_type (go f (found-sound t f g) h)
     where
-      default : (z : ℤ) (o : Option ValueType) → default_type z ≡ o → or_fault InvalidOperation (option_map (λ k. typed (literal (literal_of k z)) k) o) ≡ Ok v → Has c v.tree v.kind
+      default : (z : ℤ) (o : Option ValueType) → default_type z ≡ o → or_fault InvalidOperation (option_map (λ k. typed (literal (literal_of k z)) k) o) ≡ Ok v → Has c v.tree v.value_type
       default z None q r = cc
       default z (Some d) q r =
           let same : typed (literal (literal_of d z)) d ≡ v = cc in
-          subst (λ (x : Typed). Has c x.tree x.kind) same (held-has d z (default-core z d q) (default-holds z d q))
+          subst (λ (x : Typed). Has c x.tree x.value_type) same (held-has d z (default-core z d q) (default-holds z d q))
 
-      go : (f : Found) → IsSound f → settled f ≡ Ok v → Has c v.tree v.kind
-      go (Checked w) sound r = let same : w ≡ v = cc in subst (λ (x : Typed). Has c x.tree x.kind) same sound.0
+      go : (f : Found) → IsSound f → with_default_type f ≡ Ok v → Has c v.tree v.value_type
+      go (Checked w) sound r = let same : w ≡ v = cc in subst (λ (x : Typed). Has c x.tree x.value_type) same sound.0
       go (Untyped z) sound r = default z (default_type z) refl r

@@ -12,7 +12,7 @@ use Rattle.px_meaning.proofs.FoldLines.{ring-keeps, division-line, compare-keeps
 use Rattle.px_meaning.proofs.FusedLines.{plus-left-keeps, plus-right-keeps, minus-right-keeps, minus-left-keeps}
 use Rattle.px_meaning.proofs.LogicLines.{LineKeeps, Opposes, and-true-keeps, or-false-keeps, true-and-keeps, false-or-keeps, not-and-keeps, not-or-keeps, not-not-keeps, not-truth-keeps, not-is_null-keeps, not-is_not_null-keeps, opposed-keeps}
 use Rattle.px_meaning.proofs.RowLaws.{not-Eq, not-NotEq, not-Lt, not-LtEq, not-Gt, not-GtEq}
-use Rattle.px_meaning.proofs.Typing.{Has-HasKind, HasKind-Has}
+use Rattle.px_meaning.proofs.Typing.{Has-HasType, HasType-Has}
 use Rattle.std.proofs.Common.{refl}
 
 no_select : (context : Context) → context ≡ Filter → context ≡ Select → ⊥
@@ -71,9 +71,9 @@ line-keeps c context _ _ _ (C29 {x} {y} {z} m n) = minus-left-keeps c context x 
 pub IsRewrite-keeps : (c : Catalog) (context : Context) → KeepsMeaning c context (IsRewrite c context)
 IsRewrite-keeps c context =
     record {
-      kind = λ t u rewrite k h. Has-HasKind c u k ((line-keeps c context t u rewrite.by rewrite.rewrites).kind k (HasKind-Has c t k h));
-      rows = λ t u rewrite frame fits. (line-keeps c context t u rewrite.by rewrite.rewrites).rows rewrite.checked.0 (HasKind-Has c t rewrite.checked.0 rewrite.checked.1) frame fits;
-      name = λ t u rewrite select. (line-keeps c context t u rewrite.by rewrite.rewrites).name rewrite.checked.0 (HasKind-Has c t rewrite.checked.0 rewrite.checked.1) select;
-      faults = λ t u rewrite frame fits f h. (line-keeps c context t u rewrite.by rewrite.rewrites).faults rewrite.checked.0 (HasKind-Has c t rewrite.checked.0 rewrite.checked.1) frame fits f h;
+      value_type = λ t u rewrite k h. Has-HasType c u k ((line-keeps c context t u rewrite.by rewrite.rewrites).value_type k (HasType-Has c t k h));
+      rows = λ t u rewrite frame fits. (line-keeps c context t u rewrite.by rewrite.rewrites).rows rewrite.checked.0 (HasType-Has c t rewrite.checked.0 rewrite.checked.1) frame fits;
+      name = λ t u rewrite select. (line-keeps c context t u rewrite.by rewrite.rewrites).name rewrite.checked.0 (HasType-Has c t rewrite.checked.0 rewrite.checked.1) select;
+      faults = λ t u rewrite frame fits f h. (line-keeps c context t u rewrite.by rewrite.rewrites).faults rewrite.checked.0 (HasType-Has c t rewrite.checked.0 rewrite.checked.1) frame fits f h;
       lighter = λ t u rewrite. (line-keeps c context t u rewrite.by rewrite.rewrites).lighter;
     }

@@ -5,20 +5,20 @@ use Rattle.std.specs.List.{All}
 use Rattle.std.specs.Prelude.{option_map, option_and_then}
 use Rattle.px_base.specs.declared.error.PlanError.{PlanError}
 use Rattle.px_base.specs.declared.error.PlanError.TheVariants.{InvalidOperation}
-use Rattle.px_types.specs.Columns.{is_boolean}
-use Rattle.px_types.specs.Rows.{TypedRows, Contents, stretch}
+use Rattle.px_semantics.specs.Columns.{is_boolean}
+use Rattle.px_semantics.specs.Rows.{TypedRows, Contents, stretch}
 use Rattle.px_types.specs.Schemas.{first_repeated, unless_repeated}
 use Rattle.px_types.specs.declared.value_type.ValueType.{ValueType}
-use Rattle.px_types.specs.declared.value_type.ValueType.TheVariants as kind
+use Rattle.px_types.specs.declared.value_type.ValueType.TheVariants as value_type
 use Rattle.px_expr.specs.declared.context.Context.{Context}
 use Rattle.px_expr.specs.declared.context.Context.TheVariants.{Select, Filter}
 use Rattle.px_expr.specs.Kernel.{Kernel}
 use Rattle.px_expr.specs.Plan.{Catalog}
 use Rattle.px_expr.specs.Tree.{Tree, Trees, none, more, trees}
-use Rattle.px_meaning.specs.Check.{Typed, check, then_, gathered, or_fault, as_asked, with_names, check_list, HasKind}
+use Rattle.px_meaning.specs.Check.{Typed, check, then_, all_results, or_fault, as_asked, with_names, check_list, HasType}
 use Rattle.px_meaning.specs.Laws.{KeepsMeaning}
 use Rattle.px_meaning.specs.Faults.{HasFault}
-use Rattle.px_meaning.specs.Mean.{all_of, rows, named, mean, joined_all, shown, lined_up, mean_list}
+use Rattle.px_meaning.specs.Mean.{all_of, rows, named, mean, broadcast_length_all, as_answer, lined_up, mean_list}
 use Rattle.px_meaning.specs.Names.{name}
 use Rattle.px_meaning.specs.Rewriting.{Pairwise, AllReach}
 use Rattle.px_meaning.specs.Schema.{Fits}
@@ -34,13 +34,13 @@ Answered f (b ∷ bs) (a ∷ as') = (f b ≡ Ok a) × Answered f bs as'
 Answered f [] (a ∷ as') = ⊥
 Answered f (b ∷ bs) [] = ⊥
 
-gathered-each : {A B : Type 0} (f : B → Result A PlanError) (bs : List B) (as' : List A) → gathered (map f bs) ≡ Ok as' → Answered f bs as'
-gathered-each f [] [] e = tt
-gathered-each f [] (a ∷ as') e = cc
-gathered-each {A} f (b ∷ bs) as' e =
-    let (x, g, h) = then_-parts (f b) (λ a. then_ (gathered (map f bs)) (λ (xs : List A). Ok (a ∷ xs))) as' e in
-    let (xs, i, j) = then_-parts (gathered (map f bs)) (λ xs. Ok (x ∷ xs)) as' h in
-    split as' x xs g (gathered-each f bs xs i) cc
+all_results-each : {A B : Type 0} (f : B → Result A PlanError) (bs : List B) (as' : List A) → all_results (map f bs) ≡ Ok as' → Answered f bs as'
+all_results-each f [] [] e = tt
+all_results-each f [] (a ∷ as') e = cc
+all_results-each {A} f (b ∷ bs) as' e =
+    let (x, g, h) = then_-parts (f b) (λ a. then_ (all_results (map f bs)) (λ (xs : List A). Ok (a ∷ xs))) as' e in
+    let (xs, i, j) = then_-parts (all_results (map f bs)) (λ xs. Ok (x ∷ xs)) as' h in
+    split as' x xs g (all_results-each f bs xs i) cc
   where
     split : (as' : List A) (x : A) (xs : List A) → f b ≡ Ok x → Answered f bs xs → x ∷ xs ≡ as' → Answered f (b ∷ bs) as'
     split [] x xs g h same = cc
@@ -73,18 +73,18 @@ answered-all f P so [] (a ∷ as') h = absurd h
 answered-all f P so (b ∷ bs) [] h = absurd h
 answered-all f P so (b ∷ bs) (a ∷ as') h = All-cons P a as' (so b a h.0) (answered-all f P so bs as' h.1)
 
-is-boolean : (k : ValueType) → is_boolean k ≡ true → k ≡ kind.Boolean
-is-boolean kind.Boolean e = refl
+is-boolean : (k : ValueType) → is_boolean k ≡ true → k ≡ value_type.Boolean
+is-boolean value_type.Boolean e = refl
 is-boolean _ e = cc
 
 asked-same : (context : Context) (v w : Typed) → as_asked context v ≡ Ok w → v ≡ w
 asked-same Select v w e = cc
-asked-same Filter v w e = (given-parts (is_boolean v.kind) v w (from_option InvalidOperation (given (is_boolean v.kind) v) w e)).1
+asked-same Filter v w e = (given-parts (is_boolean v.value_type) v w (from_option InvalidOperation (given (is_boolean v.value_type) v) w e)).1
 
-asked-mask : (v w : Typed) → as_asked Filter v ≡ Ok w → w.kind ≡ kind.Boolean
+asked-mask : (v w : Typed) → as_asked Filter v ≡ Ok w → w.value_type ≡ value_type.Boolean
 asked-mask v w e =
-    let (test, same) = given-parts (is_boolean v.kind) v w (from_option InvalidOperation (given (is_boolean v.kind) v) w e) in
-    ap (λ (x : Typed). x.kind) (sym same) ∙ is-boolean v.kind test
+    let (test, same) = given-parts (is_boolean v.value_type) v w (from_option InvalidOperation (given (is_boolean v.value_type) v) w e) in
+    ap (λ (x : Typed). x.value_type) (sym same) ∙ is-boolean v.value_type test
 
 unless-parts : {A : Type 0} (a b : A) (o : Option (List ℕ)) → unless_repeated a o ≡ Ok b → (a ≡ b) × (o ≡ None)
 unless-parts a b None e = (cc, refl)
@@ -106,8 +106,8 @@ module _ (c : Catalog) where
 
   pub check_list-each : (context : Context) (ts : List Tree) (vs : List Typed) → check_list c context ts ≡ Ok vs → Answered (asked context) ts vs
   check_list-each context ts vs e =
-      let (ws, f, g) = then_-parts (gathered (map (asked context) ts)) (with_names context) vs e in
-      subst (λ (z : List Typed). Answered (asked context) ts z) (named-same context ws vs g) (gathered-each (asked context) ts ws f)
+      let (ws, f, g) = then_-parts (all_results (map (asked context) ts)) (with_names context) vs e in
+      subst (λ (z : List Typed). Answered (asked context) ts z) (named-same context ws vs g) (all_results-each (asked context) ts ws f)
 
   pub check_list-map : (context : Context) (ts : List Tree) (vs : List Typed) → check_list c context ts ≡ Ok vs → map (check c) ts ≡ map Ok vs
   check_list-map context ts vs e = answered-map (check c) ts vs (answered-by (asked context) (check c) (asked-check context) ts vs (check_list-each context ts vs e))
@@ -115,27 +115,27 @@ module _ (c : Catalog) where
   pub check_list-count : (context : Context) (ts : List Tree) (vs : List Typed) → check_list c context ts ≡ Ok vs → length vs ≡ length ts
   check_list-count context ts vs e = answered-count (asked context) ts vs (check_list-each context ts vs e)
 
-  pub check_list-checked : (context : Context) (ts : List Tree) (vs : List Typed) → check_list c context ts ≡ Ok vs → All (λ (v : Typed). HasKind c v.tree v.kind) vs
+  pub check_list-checked : (context : Context) (ts : List Tree) (vs : List Typed) → check_list c context ts ≡ Ok vs → All (λ (v : Typed). HasType c v.tree v.value_type) vs
   check_list-checked context ts vs e =
-      answered-all (asked context) (λ (v : Typed). HasKind c v.tree v.kind) (λ t v h. check-gives c t v (asked-check context t v h)) ts vs (check_list-each context ts vs e)
+      answered-all (asked context) (λ (v : Typed). HasType c v.tree v.value_type) (λ t v h. check-gives c t v (asked-check context t v h)) ts vs (check_list-each context ts vs e)
 
-  pub check_list-masks : (ts : List Tree) (vs : List Typed) → check_list c Filter ts ≡ Ok vs → All (λ (v : Typed). v.kind ≡ kind.Boolean) vs
+  pub check_list-masks : (ts : List Tree) (vs : List Typed) → check_list c Filter ts ≡ Ok vs → All (λ (v : Typed). v.value_type ≡ value_type.Boolean) vs
   check_list-masks ts vs e =
-      answered-all (asked Filter) (λ (v : Typed). v.kind ≡ kind.Boolean)
+      answered-all (asked Filter) (λ (v : Typed). v.value_type ≡ value_type.Boolean)
       (λ t v h. let (w, f, g) = then_-parts (check c t) (as_asked Filter) v h in asked-mask w v g) ts vs (check_list-each Filter ts vs e)
 
   pub check_list-names : (ts : List Tree) (vs : List Typed) → check_list c Select ts ≡ Ok vs → first_repeated (map (λ (v : Typed). name v.tree) vs) ≡ None
   check_list-names ts vs e =
-      let (ws, f, g) = then_-parts (gathered (map (asked Select) ts)) (with_names Select) vs e in
+      let (ws, f, g) = then_-parts (all_results (map (asked Select) ts)) (with_names Select) vs e in
       let (same, distinct) = unless-parts ws vs (first_repeated (map (λ (t : Typed). name t.tree) ws)) g in
       subst (λ (z : List Typed). first_repeated (map (λ (v : Typed). name v.tree) z) ≡ None) same distinct
 
 -- the answer of a filter, from the rows of its masks alone
 abbrev bare : ℕ → TypedRows → Contents
-bare n values = named [] (record { kind = values.kind; rows = stretch n values.rows })
+bare n values = named [] (record { value_type = values.value_type; rows = stretch n values.rows })
 
 abbrev bare_all : List TypedRows → Option (List Contents)
-bare_all vs = option_map (λ n. map (bare n) vs) (joined_all (map (λ (v : TypedRows). length v.rows) vs))
+bare_all vs = option_map (λ n. map (bare n) vs) (broadcast_length_all (map (λ (v : TypedRows). length v.rows) vs))
 
 abbrev values : Contents → TypedRows
 values c = c.values
@@ -147,9 +147,9 @@ map-map f g (a ∷ as') = ap (λ z. f (g a) ∷ z) (map-map f g as')
 lined-bare : (columns : List Contents) → lined_up Filter columns ≡ bare_all (map values columns)
 lined-bare columns =
     let lengths : map (λ (v : TypedRows). length v.rows) (map values columns) ≡ map (λ (c : Contents). length c.values.rows) columns = map-map (λ (v : TypedRows). length v.rows) values columns in
-    sym (ap (λ (ns : List ℕ). option_map (λ n. map (bare n) (map values columns)) (joined_all ns)) lengths ∙ each (joined_all (map (λ (c : Contents). length c.values.rows) columns)))
+    sym (ap (λ (ns : List ℕ). option_map (λ n. map (bare n) (map values columns)) (broadcast_length_all ns)) lengths ∙ each (broadcast_length_all (map (λ (c : Contents). length c.values.rows) columns)))
   where
-    each : (o : Option ℕ) → option_map (λ n. map (bare n) (map values columns)) o ≡ option_map (λ n. map (shown Filter n) columns) o
+    each : (o : Option ℕ) → option_map (λ n. map (bare n) (map values columns)) o ≡ option_map (λ n. map (as_answer Filter n) columns) o
     each None = refl
     each (Some n) = ap Some (map-map (bare n) values columns)
 
@@ -213,21 +213,21 @@ module _ (c : Catalog) (context : Context) (Rewrite : Tree → Tree → Type 0) 
 abbrev trees_of : List Typed → List Tree
 trees_of vs = map (λ (v : Typed). v.tree) vs
 
-abbrev kinds_of : List Typed → List ValueType
-kinds_of vs = map (λ (v : Typed). v.kind) vs
+abbrev types_of : List Typed → List ValueType
+types_of vs = map (λ (v : Typed). v.value_type) vs
 
-gathered-of : {A B : Type 0} (f : B → Result A PlanError) (bs : List B) (as' : List A) → Answered f bs as' → gathered (map f bs) ≡ Ok as'
-gathered-of f [] [] h = refl
-gathered-of f [] (a ∷ as') h = absurd h
-gathered-of f (b ∷ bs) [] h = absurd h
-gathered-of {A} f (b ∷ bs) (a ∷ as') h =
-    ap (λ (r : Result A PlanError). then_ r (λ x. then_ (gathered (map f bs)) (λ (xs : List A). Ok (x ∷ xs)))) h.0
-    ∙ ap (λ (r : Result (List A) PlanError). then_ r (λ xs. Ok (a ∷ xs))) (gathered-of f bs as' h.1)
+all_results-of : {A B : Type 0} (f : B → Result A PlanError) (bs : List B) (as' : List A) → Answered f bs as' → all_results (map f bs) ≡ Ok as'
+all_results-of f [] [] h = refl
+all_results-of f [] (a ∷ as') h = absurd h
+all_results-of f (b ∷ bs) [] h = absurd h
+all_results-of {A} f (b ∷ bs) (a ∷ as') h =
+    ap (λ (r : Result A PlanError). then_ r (λ x. then_ (all_results (map f bs)) (λ (xs : List A). Ok (x ∷ xs)))) h.0
+    ∙ ap (λ (r : Result (List A) PlanError). then_ r (λ xs. Ok (a ∷ xs))) (all_results-of f bs as' h.1)
 
 -- the context asks of a type what it asked of a tree that has it
-asks-kind : (context : Context) (v w u : Typed) → as_asked context v ≡ Ok w → u.kind ≡ w.kind → as_asked context u ≡ Ok u
-asks-kind Select v w u e same = refl
-asks-kind Filter v w u e same = ap (λ (k : ValueType). or_fault InvalidOperation (given (is_boolean k) u)) (same ∙ asked-mask v w e)
+asks-value_type : (context : Context) (v w u : Typed) → as_asked context v ≡ Ok w → u.value_type ≡ w.value_type → as_asked context u ≡ Ok u
+asks-value_type Select v w u e same = refl
+asks-value_type Filter v w u e same = ap (λ (k : ValueType). or_fault InvalidOperation (given (is_boolean k) u)) (same ∙ asked-mask v w e)
 
 named-of : (context : Context) (vs ws xs : List Typed) → (context ≡ Select → map (λ (v : Typed). name v.tree) vs ≡ map (λ (w : Typed). name w.tree) ws) → with_names context vs ≡ Ok xs → with_names context ws ≡ Ok ws
 named-of Select vs ws xs names e =
@@ -238,18 +238,18 @@ named-of Filter vs ws xs names e = refl
 module _ (c : Catalog) (context : Context) (Rewrite : Tree → Tree → Type 0) (keeps : KeepsMeaning c context Rewrite) where
   -- trees with the types of those in their places
   abbrev retyped : List Typed → List Tree → List Typed
-  retyped (v ∷ vs) (u ∷ us) = record { tree = u; kind = v.kind } ∷ retyped vs us
+  retyped (v ∷ vs) (u ∷ us) = record { tree = u; value_type = v.value_type } ∷ retyped vs us
   retyped _ _ = []
 
   -- the trees us, checked, with the types of vs
   record IsRetyped (vs : List Typed) (us : List Tree) : Type 0 where
     pub answered : Answered (asked c context) us (retyped vs us)
     pub trees : trees_of (retyped vs us) ≡ us
-    pub kinds : kinds_of (retyped vs us) ≡ kinds_of vs
+    pub types : types_of (retyped vs us) ≡ types_of vs
     pub names : context ≡ Select → map (λ (v : Typed). name v.tree) vs ≡ map (λ (w : Typed). name w.tree) (retyped vs us)
 
   reached-typed : (ts : List Tree) (vs : List Typed) (us : List Tree) → Answered (asked c context) ts vs → AllReach Rewrite (trees (trees_of vs)) (trees us) → IsRetyped vs us
-  reached-typed [] [] [] h ways = record { answered = tt; trees = refl; kinds = refl; names = λ select. refl }
+  reached-typed [] [] [] h ways = record { answered = tt; trees = refl; types = refl; names = λ select. refl }
   reached-typed [] [] (u ∷ us) h ways = absurd ways
   reached-typed [] (v ∷ vs) us h ways = absurd h
   reached-typed (t ∷ ts) [] us h ways = absurd h
@@ -258,25 +258,25 @@ module _ (c : Catalog) (context : Context) (Rewrite : Tree → Tree → Type 0) 
       let rest = reached-typed ts vs us h.1 ways.1 in
       let kept = Reaches-keeps c context Rewrite keeps v.tree u ways.0 in
       let (w, f, g) = then_-parts (check c t) (as_asked context) v h.0 in
-      let checked : check c u ≡ Ok (record { tree = u; kind = v.kind }) = kept.kind v.kind (check-gives c t v (asked-check c context t v h.0)) in
+      let checked : check c u ≡ Ok (record { tree = u; value_type = v.value_type }) = kept.value_type v.value_type (check-gives c t v (asked-check c context t v h.0)) in
       record {
-        answered = (ap (λ (r : Result Typed PlanError). then_ r (as_asked context)) checked ∙ asks-kind context w v (record { tree = u; kind = v.kind }) g refl, rest.answered);
+        answered = (ap (λ (r : Result Typed PlanError). then_ r (as_asked context)) checked ∙ asks-value_type context w v (record { tree = u; value_type = v.value_type }) g refl, rest.answered);
         trees = ap (λ (xs : List Tree). u ∷ xs) rest.trees;
-        kinds = ap (λ (ks : List ValueType). v.kind ∷ ks) rest.kinds;
+        types = ap (λ (ks : List ValueType). v.value_type ∷ ks) rest.types;
         names = λ select. let first : name v.tree ≡ name u = kept.name select in let others = rest.names select in cc;
       }
 
   -- what a checked list reaches is checked as it is, with the same types
   pub reached-checked :
       (ts : List Tree) (vs : List Typed) (us : List Tree) → check_list c context ts ≡ Ok vs → AllReach Rewrite (trees (trees_of vs)) (trees us) →
-      (ws : List Typed) × (check_list c context us ≡ Ok ws) × (trees_of ws ≡ us) × (kinds_of ws ≡ kinds_of vs)
+      (ws : List Typed) × (check_list c context us ≡ Ok ws) × (trees_of ws ≡ us) × (types_of ws ≡ types_of vs)
   reached-checked ts vs us e ways =
       let found = reached-typed ts vs us (check_list-each c context ts vs e) ways in
-      let (xs, f, g) = then_-parts (gathered (map (asked c context) ts)) (with_names context) vs e in
+      let (xs, f, g) = then_-parts (all_results (map (asked c context) ts)) (with_names context) vs e in
       let named : with_names context vs ≡ Ok vs = ap (with_names context) (sym (named-same context xs vs g)) ∙ g in (
         retyped vs us,
-        ap (λ (r : Result (List Typed) PlanError). then_ r (with_names context)) (gathered-of (asked c context) us (retyped vs us) found.answered)
+        ap (λ (r : Result (List Typed) PlanError). then_ r (with_names context)) (all_results-of (asked c context) us (retyped vs us) found.answered)
             ∙ named-of context vs (retyped vs us) vs found.names named,
         found.trees,
-        found.kinds,
+        found.types,
       )

@@ -8,7 +8,7 @@ use Rattle.px_meaning.specs.Check.{Typed, check, resolve}
 use Rattle.px_meaning.specs.Lowerable.{IsPlanAggregate, IsPlanNode, IsLowerable, AreLowerable, is_plan_aggregate, is_plan_node, is_lowerable, are_lowerable}
 use Rattle.px_meaning.specs.Signatures.{Operand, Known, Signature, signature}
 use Rattle.px_meaning.proofs.Gives.{check-gives}
-use Rattle.px_meaning.proofs.Typing.{Has, HaveAll, has, have_none, have_more, HasKind-Has, resolve-parts}
+use Rattle.px_meaning.proofs.Typing.{Has, HaveAll, has, have_none, have_more, HasType-Has, resolve-parts}
 
 -- a node with a signature is one that a plan has
 signature-plan : (kernels : List Kernel) (n : Node) (os : List Operand) (s : Signature) → signature kernels n os ≡ Some s → IsPlanNode n
@@ -37,7 +37,7 @@ module _ (c : Catalog) where
 
   -- what the check gives has only nodes of a plan
   pub check-lowerable : (t : Tree) (v : Typed) → check c t ≡ Ok v → IsLowerable v.tree
-  check-lowerable t v e = Has-lowerable v.tree v.kind (HasKind-Has c v.tree v.kind (check-gives c t v e))
+  check-lowerable t v e = Has-lowerable v.tree v.value_type (HasType-Has c v.tree v.value_type (check-gives c t v e))
 
 -- the test says the same
 and-parts : (a b : Bool) → a && b ≡ true → (a ≡ true) × (b ≡ true)

@@ -1,15 +1,15 @@
 -- Trees by their root: what their inputs' types are, what they mean, their faults and their weights.
 use Rattle.std.proofs.Common.{◌≡◌, ◌<◌, ◌+◌, ℕ, List, [], ◌∷◌, Some, None, true, false, refl, subst, arith}
 use Rattle.px_base.specs.declared.error.PlanError.{PlanError}
-use Rattle.px_types.specs.Classes.{is_number, is_integer_value}
-use Rattle.px_types.specs.Rows.{Contents}
+use Rattle.px_types.specs.Classes.{is_boolean_or_integer, is_integer_value}
+use Rattle.px_semantics.specs.Rows.{Contents}
 use Rattle.px_types.specs.declared.function.BooleanFunction.TheVariants as boolean
 use Rattle.px_types.specs.declared.function.FunctionExpr.{FunctionExpr}
 use Rattle.px_types.specs.declared.function.FunctionExpr.TheVariants as function
 use Rattle.px_types.specs.declared.function.FusedOperator.{FusedOperator}
 use Rattle.px_types.specs.declared.operator.Operator.{Operator}
 use Rattle.px_types.specs.declared.value_type.ValueType.{ValueType}
-use Rattle.px_types.specs.declared.value_type.ValueType.TheVariants as kind
+use Rattle.px_types.specs.declared.value_type.ValueType.TheVariants as value_type
 use Rattle.px_expr.specs.Kernel.{Kernel}
 use Rattle.px_expr.specs.declared.literal.LiteralValue.{LiteralValue}
 use Rattle.px_expr.specs.Tree.{Node, Alias, Literal, Binary, Function, Tree, tree, Trees, more, over}
@@ -27,17 +27,17 @@ use Rattle.px_meaning.proofs.Weights.{sum-cons}
 module _ (c : Catalog) where
   -- the operands of a checked operator have one type
   pub record HasOperands (o : Operator) (a b : Tree) (k : ValueType) : Type 0 where
-    pub kind : ValueType
-    pub left : Has c a kind
-    pub right : Has c b kind
-    pub gives : group_type (group_of o) kind ≡ Some k
+    pub value_type : ValueType
+    pub left : Has c a value_type
+    pub right : Has c b value_type
+    pub gives : group_type (group_of o) value_type ≡ Some k
 
   pub binary-has : (o : Operator) (a b : Tree) (k : ValueType) → Has c (binary o a b) k → HasOperands o a b k
   binary-has o a b k (has free (have_more {k = i} ha (have_more {k = j} hb have_none)) takes) =
       let (l, f, g) = binary-types c o (i ∷ j ∷ []) k takes in
       let first : i ≡ l = cc in
       let second : j ≡ l = cc in
-      record { kind = l; left = subst (Has c a) first ha; right = subst (Has c b) second hb; gives = g }
+      record { value_type = l; left = subst (Has c a) first ha; right = subst (Has c b) second hb; gives = g }
 
   pub has-binary : (o : Operator) (a b : Tree) (j k : ValueType) → Has c a j → Has c b j → group_type (group_of o) j ≡ Some k → Has c (binary o a b) k
   has-binary o a b j k ha hb e = has refl (have_more ha (have_more hb have_none)) (takes-binary c o j k e)
@@ -48,27 +48,27 @@ module _ (c : Catalog) where
   pub has-literal : (v : LiteralValue) (k : ValueType) → deferred (Literal v) ≡ None → literal_type (literal_rows v) ≡ Some k → Has c (literal v) k
   has-literal v k free e = has free have_none (takes-literal c v k e)
 
-  pub not-has : (x : Tree) (k : ValueType) → Has c (not_tree x) k → Has c x k × (is_number k ≡ true)
+  pub not-has : (x : Tree) (k : ValueType) → Has c (not_tree x) k → Has c x k × (is_boolean_or_integer k ≡ true)
   not-has x k (has free (have_more {k = j} h have_none) takes) =
       let (f, g) = not-types c (j ∷ []) k takes in
       let same : j ≡ k = cc in
       (subst (Has c x) same h, g)
 
-  pub has-not : (x : Tree) (k : ValueType) → Has c x k → is_number k ≡ true → Has c (not_tree x) k
+  pub has-not : (x : Tree) (k : ValueType) → Has c x k → is_boolean_or_integer k ≡ true → Has c (not_tree x) k
   has-not x k h e = has refl (have_more h have_none) (takes-not c k e)
 
-  pub is_null-has : (x : Tree) (k : ValueType) → Has c (is_null_tree x) k → (j : ValueType) × Has c x j × (k ≡ kind.Boolean)
+  pub is_null-has : (x : Tree) (k : ValueType) → Has c (is_null_tree x) k → (j : ValueType) × Has c x j × (k ≡ value_type.Boolean)
   is_null-has x k (has free (have_more {k = j} h have_none) takes) =
       let (i, f, g) = is_null-types c (j ∷ []) k takes in (j, h, g)
 
-  pub is_not_null-has : (x : Tree) (k : ValueType) → Has c (is_not_null_tree x) k → (j : ValueType) × Has c x j × (k ≡ kind.Boolean)
+  pub is_not_null-has : (x : Tree) (k : ValueType) → Has c (is_not_null_tree x) k → (j : ValueType) × Has c x j × (k ≡ value_type.Boolean)
   is_not_null-has x k (has free (have_more {k = j} h have_none) takes) =
       let (i, f, g) = is_not_null-types c (j ∷ []) k takes in (j, h, g)
 
-  pub has-is_null : (x : Tree) (j : ValueType) → Has c x j → Has c (is_null_tree x) kind.Boolean
+  pub has-is_null : (x : Tree) (j : ValueType) → Has c x j → Has c (is_null_tree x) value_type.Boolean
   has-is_null x j h = has refl (have_more h have_none) (takes-is_null c j)
 
-  pub has-is_not_null : (x : Tree) (j : ValueType) → Has c x j → Has c (is_not_null_tree x) kind.Boolean
+  pub has-is_not_null : (x : Tree) (j : ValueType) → Has c x j → Has c (is_not_null_tree x) value_type.Boolean
   has-is_not_null x j h = has refl (have_more h have_none) (takes-is_not_null c j)
 
   pub has-fused : (f : FusedOperator) (x y z : Tree) (k : ValueType) → Has c x k → Has c y k → Has c z k → is_integer_value k ≡ true → Has c (fused_tree f x y z) k

@@ -4,14 +4,14 @@ use Rattle.std.specs.Prelude.{option_map, option_and_then}
 use Rattle.std.specs.Simd.Lanes.{zip2}
 use Rattle.px_base.specs.declared.error.PlanError.{PlanError}
 use Rattle.px_base.specs.declared.error.PlanError.TheVariants.{ShapeMismatch, InvalidCast}
-use Rattle.px_types.specs.Arithmetic.{arith_row, arith_rows}
-use Rattle.px_types.specs.Casts.{any_lost, cast_value, cast_row, cast_list, cast_rows, cast_to}
-use Rattle.px_types.specs.Choices.{joined_three, choose_all, choose_rows}
-use Rattle.px_types.specs.Comparisons.{compare_row, compare_rows}
-use Rattle.px_types.specs.Frames.{column_named}
-use Rattle.px_types.specs.Fused.{fused_row, fused_rows, zip3}
-use Rattle.px_types.specs.Logic.{logic_row, logic_rows}
-use Rattle.px_types.specs.Rows.{Row, TypedRows, Contents, joined, stretch, row_by_row, joined_rows}
+use Rattle.px_semantics.specs.Arithmetic.{arith_row, arith_rows}
+use Rattle.px_semantics.specs.Casts.{any_lost, cast_value, cast_row, cast_list, cast_rows, cast_to}
+use Rattle.px_semantics.specs.Selections.{broadcast_length_three, select_all, select_rows}
+use Rattle.px_semantics.specs.Comparisons.{compare_row, compare_rows}
+use Rattle.px_semantics.specs.Frames.{column_named}
+use Rattle.px_semantics.specs.Fused.{fused_row, fused_rows, zip3}
+use Rattle.px_semantics.specs.Logic.{logic_row, logic_rows}
+use Rattle.px_semantics.specs.Rows.{Row, TypedRows, Contents, broadcast_length, stretch, elementwise, broadcast_rows}
 use Rattle.px_types.specs.Schemas.{dtype_at}
 use Rattle.px_types.specs.ValueTypes.{value_type_of, dtype_of}
 use Rattle.px_types.specs.declared.dtype.DataType.{DataType}
@@ -19,15 +19,15 @@ use Rattle.px_types.specs.declared.function.BooleanFunction.TheVariants.{IsNull,
 use Rattle.px_types.specs.declared.function.FunctionExpr.{FunctionExpr}
 use Rattle.px_types.specs.declared.function.FunctionExpr.TheVariants as function
 use Rattle.px_types.specs.declared.function.FusedOperator.{FusedOperator}
-use Rattle.px_types.specs.declared.kinds.CastOptions.{CastOptions}
-use Rattle.px_types.specs.declared.kinds.CastOptions.TheVariants.{Strict, NonStrict, Overflowing}
+use Rattle.px_types.specs.declared.type_parts.CastOptions.{CastOptions}
+use Rattle.px_types.specs.declared.type_parts.CastOptions.TheVariants.{Strict, NonStrict, Overflowing}
 use Rattle.px_types.specs.declared.operator.Operator.{Operator}
 use Rattle.px_types.specs.declared.value_type.ValueType.{ValueType}
-use Rattle.px_types.specs.declared.value_type.ValueType.TheVariants as kind
+use Rattle.px_types.specs.declared.value_type.ValueType.TheVariants as value_type
 use Rattle.px_expr.specs.declared.literal.LiteralValue.{LiteralValue}
 use Rattle.px_expr.specs.Tree.{Node, Alias, Column, Literal, Binary, Cast, Ternary, Function, Tree, tree, Trees, more, fold_trees}
 use Rattle.px_meaning.specs.Faults.{is_joining, lengths, OwnFault, uneven, lossy, HasFault, SomeHasFault, own, of_input, of_first, of_rest}
-use Rattle.px_meaning.specs.Mean.{group_rows, binary_rows, of_one, of_three, function_rows, own_rows, all_of, node_rows, rows, joined_all}
+use Rattle.px_meaning.specs.Mean.{group_rows, binary_rows, of_one, of_three, function_rows, own_rows, all_of, node_rows, rows, broadcast_length_all}
 use Rattle.px_meaning.specs.Schema.{Fits}
 use Rattle.px_expr.specs.Plan.{Catalog}
 use Rattle.px_meaning.specs.Signatures.{Known, Group, Arithmetic, Comparison, Bitwise, Logical, Fractional, group_of, group_type, literal_type, signature}
@@ -35,54 +35,54 @@ use Rattle.px_meaning.proofs.Means.{AreColumns, one_column, two_columns, three_c
 use Rattle.px_meaning.proofs.Types.{Takes, alias-types, literal-types, binary-types, cast-types, not-types, is_null-types, is_not_null-types, negate-types, fused-types, ternary-types}
 use Rattle.px_meaning.proofs.Typing.{Has, HaveAll, has, have_none, have_more, column-parts}
 
-abbrev of_kind : ValueType → List Row → TypedRows
-of_kind k rows = record { kind = k; rows = rows }
+abbrev of_type : ValueType → List Row → TypedRows
+of_type k rows = record { value_type = k; rows = rows }
 
 mapped-none : {A B : Type 0} (f : A → B) (o : Option A) → option_map f o ≡ None → o ≡ None
 mapped-none f None e = refl
 mapped-none f (Some a) e = cc
 
-joined_rows-none : (k : ValueType) (f : Row → Row → Row) (xs ys : List Row) → joined_rows k f xs ys ≡ None → joined (length xs) (length ys) ≡ None
-joined_rows-none k f xs ys e = mapped-none (λ n. zip2 f (stretch n xs) (stretch n ys)) (joined (length xs) (length ys)) (mapped-none (of_kind k) (row_by_row f xs ys) e)
+broadcast_rows-none : (k : ValueType) (f : Row → Row → Row) (xs ys : List Row) → broadcast_rows k f xs ys ≡ None → broadcast_length (length xs) (length ys) ≡ None
+broadcast_rows-none k f xs ys e = mapped-none (λ n. zip2 f (stretch n xs) (stretch n ys)) (broadcast_length (length xs) (length ys)) (mapped-none (of_type k) (elementwise f xs ys) e)
 
-none-joined_rows : (k : ValueType) (f : Row → Row → Row) (xs ys : List Row) → joined (length xs) (length ys) ≡ None → joined_rows k f xs ys ≡ None
-none-joined_rows k f xs ys e = ap (λ (m : Option ℕ). option_map (of_kind k) (option_map (λ n. zip2 f (stretch n xs) (stretch n ys)) m)) e
+none-broadcast_rows : (k : ValueType) (f : Row → Row → Row) (xs ys : List Row) → broadcast_length (length xs) (length ys) ≡ None → broadcast_rows k f xs ys ≡ None
+none-broadcast_rows k f xs ys e = ap (λ (m : Option ℕ). option_map (of_type k) (option_map (λ n. zip2 f (stretch n xs) (stretch n ys)) m)) e
 
--- an operator gives nothing exactly where the lengths do not join
-group-none : (g : Group) (o : Operator) (a b : TypedRows) (j k : ValueType) → group_type g j ≡ Some k → group_rows g o a b ≡ None → joined (length a.rows) (length b.rows) ≡ None
+-- an operator gives nothing exactly where the lengths do not broadcast
+group-none : (g : Group) (o : Operator) (a b : TypedRows) (j k : ValueType) → group_type g j ≡ Some k → group_rows g o a b ≡ None → broadcast_length (length a.rows) (length b.rows) ≡ None
 unfolding arith_rows compare_rows logic_rows
-group-none Arithmetic o a b j k t e = joined_rows-none a.kind (arith_row o a.kind) a.rows b.rows e
-group-none Comparison o a b j k t e = joined_rows-none kind.Boolean (compare_row o) a.rows b.rows e
-group-none Bitwise o a b j k t e = joined_rows-none a.kind (logic_row o a.kind) a.rows b.rows e
-group-none Logical o a b j k t e = joined_rows-none a.kind (logic_row o a.kind) a.rows b.rows e
+group-none Arithmetic o a b j k t e = broadcast_rows-none a.value_type (arith_row o a.value_type) a.rows b.rows e
+group-none Comparison o a b j k t e = broadcast_rows-none value_type.Boolean (compare_row o) a.rows b.rows e
+group-none Bitwise o a b j k t e = broadcast_rows-none a.value_type (logic_row o a.value_type) a.rows b.rows e
+group-none Logical o a b j k t e = broadcast_rows-none a.value_type (logic_row o a.value_type) a.rows b.rows e
 group-none Fractional o a b j k t e = cc
 
-none-group : (g : Group) (o : Operator) (a b : TypedRows) → joined (length a.rows) (length b.rows) ≡ None → group_rows g o a b ≡ None
+none-group : (g : Group) (o : Operator) (a b : TypedRows) → broadcast_length (length a.rows) (length b.rows) ≡ None → group_rows g o a b ≡ None
 unfolding arith_rows compare_rows logic_rows
-none-group Arithmetic o a b e = none-joined_rows a.kind (arith_row o a.kind) a.rows b.rows e
-none-group Comparison o a b e = none-joined_rows kind.Boolean (compare_row o) a.rows b.rows e
-none-group Bitwise o a b e = none-joined_rows a.kind (logic_row o a.kind) a.rows b.rows e
-none-group Logical o a b e = none-joined_rows a.kind (logic_row o a.kind) a.rows b.rows e
+none-group Arithmetic o a b e = none-broadcast_rows a.value_type (arith_row o a.value_type) a.rows b.rows e
+none-group Comparison o a b e = none-broadcast_rows value_type.Boolean (compare_row o) a.rows b.rows e
+none-group Bitwise o a b e = none-broadcast_rows a.value_type (logic_row o a.value_type) a.rows b.rows e
+none-group Logical o a b e = none-broadcast_rows a.value_type (logic_row o a.value_type) a.rows b.rows e
 none-group Fractional o a b e = refl
 
-choose-none : (m a b : TypedRows) → choose_rows m a b ≡ None → joined_three (length m.rows) (length a.rows) (length b.rows) ≡ None
-unfolding choose_rows
-choose-none m a b e = mapped-none (λ n. of_kind a.kind (choose_all (stretch n m.rows) (stretch n a.rows) (stretch n b.rows))) (joined_three (length m.rows) (length a.rows) (length b.rows)) e
+choose-none : (m a b : TypedRows) → select_rows m a b ≡ None → broadcast_length_three (length m.rows) (length a.rows) (length b.rows) ≡ None
+unfolding select_rows
+choose-none m a b e = mapped-none (λ n. of_type a.value_type (select_all (stretch n m.rows) (stretch n a.rows) (stretch n b.rows))) (broadcast_length_three (length m.rows) (length a.rows) (length b.rows)) e
 
-none-choose : (m a b : TypedRows) → joined_three (length m.rows) (length a.rows) (length b.rows) ≡ None → choose_rows m a b ≡ None
-unfolding choose_rows
-none-choose m a b e = ap (option_map (λ n. of_kind a.kind (choose_all (stretch n m.rows) (stretch n a.rows) (stretch n b.rows)))) e
+none-choose : (m a b : TypedRows) → broadcast_length_three (length m.rows) (length a.rows) (length b.rows) ≡ None → select_rows m a b ≡ None
+unfolding select_rows
+none-choose m a b e = ap (option_map (λ n. of_type a.value_type (select_all (stretch n m.rows) (stretch n a.rows) (stretch n b.rows)))) e
 
-fused-none : (f : FusedOperator) (a b d : TypedRows) → fused_rows f a b d ≡ None → joined_three (length a.rows) (length b.rows) (length d.rows) ≡ None
+fused-none : (f : FusedOperator) (a b d : TypedRows) → fused_rows f a b d ≡ None → broadcast_length_three (length a.rows) (length b.rows) (length d.rows) ≡ None
 unfolding fused_rows
 fused-none f a b d e =
-    let make : ℕ → List Row = λ n. zip3 (fused_row f a.kind) (stretch n a.rows) (stretch n b.rows) (stretch n d.rows) in
-    let three : Option ℕ = joined_three (length a.rows) (length b.rows) (length d.rows) in
-    mapped-none make three (mapped-none (of_kind a.kind) (option_map make three) e)
+    let make : ℕ → List Row = λ n. zip3 (fused_row f a.value_type) (stretch n a.rows) (stretch n b.rows) (stretch n d.rows) in
+    let three : Option ℕ = broadcast_length_three (length a.rows) (length b.rows) (length d.rows) in
+    mapped-none make three (mapped-none (of_type a.value_type) (option_map make three) e)
 
-none-fused : (f : FusedOperator) (a b d : TypedRows) → joined_three (length a.rows) (length b.rows) (length d.rows) ≡ None → fused_rows f a b d ≡ None
+none-fused : (f : FusedOperator) (a b d : TypedRows) → broadcast_length_three (length a.rows) (length b.rows) (length d.rows) ≡ None → fused_rows f a b d ≡ None
 unfolding fused_rows
-none-fused f a b d e = ap (λ (m : Option ℕ). option_map (of_kind a.kind) (option_map (λ n. zip3 (fused_row f a.kind) (stretch n a.rows) (stretch n b.rows) (stretch n d.rows)) m)) e
+none-fused f a b d e = ap (λ (m : Option ℕ). option_map (of_type a.value_type) (option_map (λ n. zip3 (fused_row f a.value_type) (stretch n a.rows) (stretch n b.rows) (stretch n d.rows)) m)) e
 
 -- a cast gives nothing exactly where it is strict and loses a value
 record IsLossy (options : CastOptions) (k : ValueType) (a : TypedRows) : Type 0 where
@@ -91,7 +91,7 @@ record IsLossy (options : CastOptions) (k : ValueType) (a : TypedRows) : Type 0 
 
 cast-none : (options : CastOptions) (k : ValueType) (a : TypedRows) → cast_rows options k a ≡ None → IsLossy options k a
 unfolding cast_rows
-cast-none options k a e = go options (mapped-none (of_kind k) (cast_list options (cast_value options k) a.rows) e)
+cast-none options k a e = go options (mapped-none (of_type k) (cast_list options (cast_value options k) a.rows) e)
   where
     test : (b : Bool) → cond b None (Some (map (cast_row (cast_value Strict k)) a.rows)) ≡ None → b ≡ true
     test true e = refl
@@ -104,7 +104,7 @@ cast-none options k a e = go options (mapped-none (of_kind k) (cast_list options
 
 none-cast : (k : ValueType) (a : TypedRows) → any_lost (cast_value Strict k) a.rows ≡ true → cast_rows Strict k a ≡ None
 unfolding cast_rows
-none-cast k a e = ap (λ (b : Bool). option_map (of_kind k) (cond b None (Some (map (cast_row (cast_value Strict k)) a.rows)))) e
+none-cast k a e = ap (λ (b : Bool). option_map (of_type k) (cond b None (Some (map (cast_row (cast_value Strict k)) a.rows)))) e
 
 pub all_of-is : (ms : List (Option TypedRows)) (vs : List TypedRows) → all_of ms ≡ Some vs → ms ≡ map Some vs
 all_of-is [] vs e = let same : [] ≡ vs = cc in ap (map Some) same
@@ -120,7 +120,7 @@ module _ (c : Catalog) (frame : List Contents) (fits : Fits frame c.schema) wher
   abbrev pub FaultOver : Node → List TypedRows → Type 0
   FaultOver n vs = (f : PlanError) × ((ms : List (Option TypedRows)) → all_of ms ≡ Some vs → OwnFault c.kernels frame n ms f)
 
-  uneven-over : (n : Node) (vs : List TypedRows) → is_joining n ≡ true → joined_all (lengths vs) ≡ None → FaultOver n vs
+  uneven-over : (n : Node) (vs : List TypedRows) → is_joining n ≡ true → broadcast_length_all (lengths vs) ≡ None → FaultOver n vs
   uneven-over n vs joins e = (ShapeMismatch, λ ms all. uneven joins (vs, all, e))
 
   -- where a node gives nothing over columns of types that it takes, it has a fault
@@ -131,7 +131,7 @@ module _ (c : Catalog) (frame : List Contents) (fits : Fits frame c.schema) wher
   explains-column m ks k vs t h e =
       let p = column-parts c m (map Known ks) (record { inputs = ks; result = k }) t in
       let absent = mapped-none (λ (x : Contents). x.values) (column_named frame m) e in
-      let at : dtype_at c.schema m ≡ None = subst (λ (s : _). dtype_at s m ≡ None) fits.same (dtype_at-column_named frame m ∙ ap (option_map (λ (x : Contents). dtype_of x.values.kind)) absent) in
+      let at : dtype_at c.schema m ≡ None = subst (λ (s : _). dtype_at s m ≡ None) fits.same (dtype_at-column_named frame m ∙ ap (option_map (λ (x : Contents). dtype_of x.values.value_type)) absent) in
       let there : dtype_at c.schema m ≡ Some p.dtype = p.at in
       cc
 
@@ -152,7 +152,7 @@ module _ (c : Catalog) (frame : List Contents) (fits : Fits frame c.schema) wher
       let (j, f, g) = binary-types c o ks k t in
       let (a, b, i, ha, hb) = two_columns j j ks vs f h in
       let apart = group-none (group_of o) o a b j k g (sym (ap (binary_rows o) i) ∙ e) in
-      uneven-over (Binary o) vs refl (ap (λ (z : List TypedRows). joined_all (lengths z)) i ∙ apart)
+      uneven-over (Binary o) vs refl (ap (λ (z : List TypedRows). broadcast_length_all (lengths z)) i ∙ apart)
 
   explains-cast : (dtype : DataType) (options : CastOptions) → Explains (Cast dtype options)
   explains-cast dtype options ks k vs t h e =
@@ -169,9 +169,9 @@ module _ (c : Catalog) (frame : List Contents) (fits : Fits frame c.schema) wher
 
   explains-ternary : Explains Ternary
   explains-ternary ks k vs t h e =
-      let (m, a, b, f, hm, ha, hb) = three_columns kind.Boolean k k ks vs (ternary-types c ks k t) h in
-      let apart = choose-none m a b (sym (ap (of_three choose_rows) f) ∙ e) in
-      uneven-over Ternary vs refl (ap (λ (z : List TypedRows). joined_all (lengths z)) f ∙ apart)
+      let (m, a, b, f, hm, ha, hb) = three_columns value_type.Boolean k k ks vs (ternary-types c ks k t) h in
+      let apart = choose-none m a b (sym (ap (of_three select_rows) f) ∙ e) in
+      uneven-over Ternary vs refl (ap (λ (z : List TypedRows). broadcast_length_all (lengths z)) f ∙ apart)
 
   explains-function : (f : FunctionExpr) → Explains (Function f)
   explains-function (function.Boolean IsNull) ks k vs t h e =
@@ -194,7 +194,7 @@ module _ (c : Catalog) (frame : List Contents) (fits : Fits frame c.schema) wher
       let (f, g) = fused-types c o ks k t in
       let (x, y, z, i, hx, hy, hz) = three_columns k k k ks vs f h in
       let apart = fused-none o x y z (sym (ap (function_rows (function.Fused o)) i) ∙ e) in
-      uneven-over (Function (function.Fused o)) vs refl (ap (λ (z : List TypedRows). joined_all (lengths z)) i ∙ apart)
+      uneven-over (Function (function.Fused o)) vs refl (ap (λ (z : List TypedRows). broadcast_length_all (lengths z)) i ∙ apart)
 
   pub explains : (n : Node) → Explains n
   unfolding signature
@@ -208,18 +208,18 @@ module _ (c : Catalog) (frame : List Contents) (fits : Fits frame c.schema) wher
   explains _ = λ ks k vs t h e. cc
 
   -- a node with a fault gives nothing over columns of types that it takes
-  joining-nothing : (n : Node) (ks : List ValueType) (k : ValueType) (vs : List TypedRows) → is_joining n ≡ true → Takes c n ks k → AreColumns ks vs → joined_all (lengths vs) ≡ None → own_rows c.kernels frame n vs ≡ None
+  joining-nothing : (n : Node) (ks : List ValueType) (k : ValueType) (vs : List TypedRows) → is_joining n ≡ true → Takes c n ks k → AreColumns ks vs → broadcast_length_all (lengths vs) ≡ None → own_rows c.kernels frame n vs ≡ None
   joining-nothing (Binary o) ks k vs joins t h e =
       let (j, f, g) = binary-types c o ks k t in
       let (a, b, i, ha, hb) = two_columns j j ks vs f h in
-      ap (binary_rows o) i ∙ none-group (group_of o) o a b (sym (ap (λ (z : List TypedRows). joined_all (lengths z)) i) ∙ e)
+      ap (binary_rows o) i ∙ none-group (group_of o) o a b (sym (ap (λ (z : List TypedRows). broadcast_length_all (lengths z)) i) ∙ e)
   joining-nothing Ternary ks k vs joins t h e =
-      let (m, a, b, f, hm, ha, hb) = three_columns kind.Boolean k k ks vs (ternary-types c ks k t) h in
-      ap (of_three choose_rows) f ∙ none-choose m a b (sym (ap (λ (z : List TypedRows). joined_all (lengths z)) f) ∙ e)
+      let (m, a, b, f, hm, ha, hb) = three_columns value_type.Boolean k k ks vs (ternary-types c ks k t) h in
+      ap (of_three select_rows) f ∙ none-choose m a b (sym (ap (λ (z : List TypedRows). broadcast_length_all (lengths z)) f) ∙ e)
   joining-nothing (Function (function.Fused o)) ks k vs joins t h e =
       let (f, g) = fused-types c o ks k t in
       let (x, y, z, i, hx, hy, hz) = three_columns k k k ks vs f h in
-      ap (function_rows (function.Fused o)) i ∙ none-fused o x y z (sym (ap (λ (z : List TypedRows). joined_all (lengths z)) i) ∙ e)
+      ap (function_rows (function.Fused o)) i ∙ none-fused o x y z (sym (ap (λ (z : List TypedRows). broadcast_length_all (lengths z)) i) ∙ e)
   joining-nothing (Function (function.Boolean f)) ks k vs joins t h e = cc
   joining-nothing (Function function.Negate) ks k vs joins t h e = cc
   joining-nothing _ ks k vs joins t h e = cc
@@ -228,7 +228,7 @@ module _ (c : Catalog) (frame : List Contents) (fits : Fits frame c.schema) wher
   fault-nothing-over n ks k ms vs _ (uneven joins (cols, e, apart)) all t h =
       let same : Some cols ≡ Some vs = sym e ∙ all in
       let is : cols ≡ vs = cc in
-      joining-nothing n ks k vs joins t h (subst (λ (z : List TypedRows). joined_all (lengths z) ≡ None) is apart)
+      joining-nothing n ks k vs joins t h (subst (λ (z : List TypedRows). broadcast_length_all (lengths z) ≡ None) is apart)
   fault-nothing-over _ ks k ms vs _ (lossy {dtype} to e (a, q, lost)) all t h =
       let same : Some (a ∷ []) ≡ Some vs = sym (ap all_of q) ∙ all in
       let is : a ∷ [] ≡ vs = cc in

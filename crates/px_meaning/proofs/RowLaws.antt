@@ -3,24 +3,24 @@ use Rattle.std.proofs.Common.{◌≡◌, inl, inr, ℕ, zero, suc, List, [], ◌
 use Rattle.std.specs.Prelude.{option_map}
 use Rattle.std.specs.Simd.Lanes.{Each1, zip2}
 use Rattle.std.proofs.lemmas.List.{length-map}
-use Rattle.px_types.specs.Comparisons.{compare_row, test_row, less, equal}
-use Rattle.px_types.specs.Logic.{truth_row, not_row, null_row, value_row}
-use Rattle.px_types.specs.Rows.{Datum, Truth, Text, Integer, Row, IsRowOf, joined, stretch, row_by_row}
+use Rattle.px_semantics.specs.Comparisons.{compare_row, test_row, less, equal}
+use Rattle.px_semantics.specs.Logic.{boolean_logic_row, not_row, null_row, value_row}
+use Rattle.px_semantics.specs.Rows.{Datum, Truth, Text, Integer, Row, IsRowOf, broadcast_length, stretch, elementwise}
 use Rattle.px_types.specs.declared.operator.Operator.TheVariants as op
-use Rattle.px_types.specs.declared.value_type.ValueType.TheVariants as kind
-use Rattle.px_column.proofs.LawLemmas.{by_eq}
-use Rattle.px_rows.proofs.Joins.{rows_same, rows_left, rows_right, stretch_one, stretch_other}
+use Rattle.px_types.specs.declared.value_type.ValueType.TheVariants as value_type
+use Rattle.px_semantics.proofs.LawLemmas.{by_eq}
+use Rattle.px_semantics.proofs.Joins.{rows_same, rows_left, rows_right, stretch_one, stretch_other}
 
 map-fixed : (P : Row → Type 0) (f : Row → Row) → ((r : Row) → P r → f r ≡ r) → (rows : List Row) → Each1 P rows → map f rows ≡ rows
 map-fixed P f h [] p = refl
 map-fixed P f h (r ∷ rows) p = let here = h r p.0 in let rest = map-fixed P f h rows p.1 in cc
 
 -- one row on the left that changes nothing
-pub left_unit : (P : Row → Type 0) (f : Row → Row → Row) (e : Row) → ((r : Row) → P r → f e r ≡ r) → (rows : List Row) → Each1 P rows → row_by_row f (e ∷ []) rows ≡ Some rows
+pub left_unit : (P : Row → Type 0) (f : Row → Row → Row) (e : Row) → ((r : Row) → P r → f e r ≡ r) → (rows : List Row) → Each1 P rows → elementwise f (e ∷ []) rows ≡ Some rows
 left_unit P f e h rows p = rows_left f (e ∷ []) rows refl ∙ ap Some (map-fixed P (f e) h rows p)
 
 -- one row on the right that changes nothing
-pub right_unit : (P : Row → Type 0) (f : Row → Row → Row) (e : Row) → ((r : Row) → P r → f r e ≡ r) → (rows : List Row) → Each1 P rows → row_by_row f rows (e ∷ []) ≡ Some rows
+pub right_unit : (P : Row → Type 0) (f : Row → Row → Row) (e : Row) → ((r : Row) → P r → f r e ≡ r) → (rows : List Row) → Each1 P rows → elementwise f rows (e ∷ []) ≡ Some rows
 right_unit P f e h rows p = elim (by_eq (length rows) 1) [
   | inl one ↦ rows_same f rows (e ∷ []) one ∙ ap Some (single rows one p)
   | inr other ↦ rows_right f rows (e ∷ []) other other refl ∙ ap Some (map-fixed P (λ r. f r e) h rows p)
@@ -31,28 +31,28 @@ right_unit P f e h rows p = elim (by_eq (length rows) 1) [
     single (r ∷ []) one p = ap (λ x. x ∷ []) (h r p.0)
     single (r ∷ (s ∷ rows)) one p = absurd (omega arith)
 
-pub and-true : (r : Row) → IsRowOf kind.Boolean r → truth_row op.And r (Some (Truth true)) ≡ r
+pub and-true : (r : Row) → IsRowOf value_type.Boolean r → boolean_logic_row op.And r (Some (Truth true)) ≡ r
 and-true None h = refl
 and-true (Some (Truth true)) h = refl
 and-true (Some (Truth false)) h = refl
 and-true (Some (Text b)) h = absurd h
 and-true (Some (Integer z)) h = absurd h
 
-pub true-and : (r : Row) → IsRowOf kind.Boolean r → truth_row op.And (Some (Truth true)) r ≡ r
+pub true-and : (r : Row) → IsRowOf value_type.Boolean r → boolean_logic_row op.And (Some (Truth true)) r ≡ r
 true-and None h = refl
 true-and (Some (Truth true)) h = refl
 true-and (Some (Truth false)) h = refl
 true-and (Some (Text b)) h = absurd h
 true-and (Some (Integer z)) h = absurd h
 
-pub or-false : (r : Row) → IsRowOf kind.Boolean r → truth_row op.Or r (Some (Truth false)) ≡ r
+pub or-false : (r : Row) → IsRowOf value_type.Boolean r → boolean_logic_row op.Or r (Some (Truth false)) ≡ r
 or-false None h = refl
 or-false (Some (Truth true)) h = refl
 or-false (Some (Truth false)) h = refl
 or-false (Some (Text b)) h = absurd h
 or-false (Some (Integer z)) h = absurd h
 
-pub false-or : (r : Row) → IsRowOf kind.Boolean r → truth_row op.Or (Some (Truth false)) r ≡ r
+pub false-or : (r : Row) → IsRowOf value_type.Boolean r → boolean_logic_row op.Or (Some (Truth false)) r ≡ r
 false-or None h = refl
 false-or (Some (Truth true)) h = refl
 false-or (Some (Truth false)) h = refl
@@ -96,13 +96,13 @@ stretched P d n rows p = elim (by_eq (length rows) 1) [
     copies (suc n) r p = (p, copies n r p)
 
 -- a function of each row goes through what is done row by row
-pub row_by_row-mapped :
+pub elementwise-mapped :
     (P : Row → Type 0) → P None → (h : Row → Row) (f g : Row → Row → Row) → ((x y : Row) → P x → P y → g (h x) (h y) ≡ h (f x y)) → (xs ys : List Row) → Each1 P xs → Each1 P ys →
-    row_by_row g (map h xs) (map h ys) ≡ option_map (map h) (row_by_row f xs ys)
-row_by_row-mapped P d h f g same xs ys p q =
-    ap (λ m. option_map (λ n. zip2 g (stretch n (map h xs)) (stretch n (map h ys))) (joined m (length (map h ys)))) (length-map xs h)
-    ∙ (ap (λ m. option_map (λ n. zip2 g (stretch n (map h xs)) (stretch n (map h ys))) (joined (length xs) m)) (length-map ys h)
-    ∙ go (joined (length xs) (length ys)))
+    elementwise g (map h xs) (map h ys) ≡ option_map (map h) (elementwise f xs ys)
+elementwise-mapped P d h f g same xs ys p q =
+    ap (λ m. option_map (λ n. zip2 g (stretch n (map h xs)) (stretch n (map h ys))) (broadcast_length m (length (map h ys)))) (length-map xs h)
+    ∙ (ap (λ m. option_map (λ n. zip2 g (stretch n (map h xs)) (stretch n (map h ys))) (broadcast_length (length xs) m)) (length-map ys h)
+    ∙ go (broadcast_length (length xs) (length ys)))
   where
     go : (o : Option ℕ) → option_map (λ n. zip2 g (stretch n (map h xs)) (stretch n (map h ys))) o ≡ option_map (map h) (option_map (λ n. zip2 f (stretch n xs) (stretch n ys)) o)
     go None = refl
@@ -117,8 +117,8 @@ map-zip2 h f g same (x ∷ xs) [] = refl
 map-zip2 h f g same (x ∷ xs) (y ∷ ys) = let here = same x y in let rest = map-zip2 h f g same xs ys in cc
 
 -- a function of what is done row by row
-pub row_by_row-after : (h : Row → Row) (f g : Row → Row → Row) → ((x y : Row) → h (f x y) ≡ g x y) → (xs ys : List Row) → option_map (map h) (row_by_row f xs ys) ≡ row_by_row g xs ys
-row_by_row-after h f g same xs ys = go (joined (length xs) (length ys))
+pub elementwise-after : (h : Row → Row) (f g : Row → Row → Row) → ((x y : Row) → h (f x y) ≡ g x y) → (xs ys : List Row) → option_map (map h) (elementwise f xs ys) ≡ elementwise g xs ys
+elementwise-after h f g same xs ys = go (broadcast_length (length xs) (length ys))
   where
     go : (o : Option ℕ) → option_map (map h) (option_map (λ n. zip2 f (stretch n xs) (stretch n ys)) o) ≡ option_map (λ n. zip2 g (stretch n xs) (stretch n ys)) o
     go None = refl
@@ -132,7 +132,7 @@ twice : (b : Bool) → not (not b) ≡ b
 twice true = refl
 twice false = refl
 
--- the opposite of a test is the test of the opposite
+-- the negation of a test is the test of the negation
 pub not-test : (f g : Datum → Datum → Bool) → ((d e : Datum) → not (f d e) ≡ g d e) → (x y : Row) → not_row (test_row f x y) ≡ test_row g x y
 not-test f g h None y = refl
 not-test f g h (Some d) None = refl

@@ -2,7 +2,7 @@
 use Rattle.std.proofs.Common.{◌≡◌, ℕ, ◌==◌, List, [], ◌∷◌, map, length, Option, Some, None, Bool, true, false, cond, refl, sym, ap, subst}
 use Rattle.std.specs.Prelude.{option_map, option_and_then}
 use Rattle.px_types.specs.declared.value_type.ValueType.{ValueType}
-use Rattle.px_types.specs.declared.value_type.ValueType.TheVariants as kind
+use Rattle.px_types.specs.declared.value_type.ValueType.TheVariants as value_type
 use Rattle.px_meaning.specs.Signatures.{Operand, Signature, own_type, of_input, unary, of_united, uniting, united, leaf, masked, is_mask, ternary_signature, any_type}
 
 -- both lists are equally long
@@ -31,11 +31,11 @@ leaf-parts k (o ∷ os) s e = cc
 
 pub record IsUnary (result : ValueType → Option ValueType) (os : List Operand) (s : Signature) : Type 0 where
   pub operand : Operand
-  pub kind : ValueType
+  pub value_type : ValueType
   pub one : os ≡ operand ∷ []
-  pub own : own_type operand ≡ Some kind
-  pub gives : result kind ≡ Some s.result
-  pub takes : s.inputs ≡ kind ∷ []
+  pub own : own_type operand ≡ Some value_type
+  pub gives : result value_type ≡ Some s.result
+  pub takes : s.inputs ≡ value_type ∷ []
 
 pub unary-parts : (result : ValueType → Option ValueType) (os : List Operand) (s : Signature) → unary result os ≡ Some s → IsUnary result os s
 unary-parts result [] s e = cc
@@ -44,7 +44,7 @@ unary-parts result (o ∷ []) s e =
     let (r, h, i) = map-parts (result k) (λ r. record { inputs = k ∷ []; result = r }) s g in
     record {
       operand = o;
-      kind = k;
+      value_type = k;
       one = refl;
       own = f;
       gives = subst (λ (x : Signature). result k ≡ Some x.result) i h;
@@ -53,11 +53,11 @@ unary-parts result (o ∷ []) s e =
 unary-parts result (o ∷ (p ∷ os)) s e = cc
 
 pub record IsUniting (count : ℕ) (result : ValueType → Option ValueType) (os : List Operand) (s : Signature) : Type 0 where
-  pub kind : ValueType
+  pub value_type : ValueType
   pub many : (length os == count) ≡ true
-  pub unites : united os ≡ Some kind
-  pub gives : result kind ≡ Some s.result
-  pub takes : s.inputs ≡ map (λ _. kind) os
+  pub unites : united os ≡ Some value_type
+  pub gives : result value_type ≡ Some s.result
+  pub takes : s.inputs ≡ map (λ _. value_type) os
 
 pub uniting-parts : (count : ℕ) (result : ValueType → Option ValueType) (os : List Operand) (s : Signature) → uniting count result os ≡ Some s → IsUniting count result os s
 uniting-parts count result os s e = go (length os == count) refl e
@@ -67,7 +67,7 @@ uniting-parts count result os s e = go (length os == count) refl e
         let (k, g, h) = and_then-parts (united os) (of_united result os) s f in
         let (r, i, j) = map-parts (result k) (λ r. record { inputs = map (λ _. k) os; result = r }) s h in
         record {
-          kind = k;
+          value_type = k;
           many = many;
           unites = g;
           gives = subst (λ (x : Signature). result k ≡ Some x.result) j i;
@@ -102,13 +102,13 @@ unary-long result os s e =
 pub uniting-long : (count : ℕ) (result : ValueType → Option ValueType) (os : List Operand) (s : Signature) → uniting count result os ≡ Some s → SameLength s.inputs os
 uniting-long count result os s e =
     let p = uniting-parts count result os s e in
-    subst (λ (z : List ValueType). SameLength z os) (sym p.takes) (SameLength-map (λ _. p.kind) os)
+    subst (λ (z : List ValueType). SameLength z os) (sym p.takes) (SameLength-map (λ _. p.value_type) os)
 
 pub ternary-long : (os : List Operand) (s : Signature) → ternary_signature os ≡ Some s → SameLength s.inputs os
 ternary-long os s e =
     let p = ternary-parts os s e in
     subst (λ (z : Signature). SameLength z.inputs os) (sym p.whole)
-    (subst (λ (z : List Operand). SameLength (kind.Boolean ∷ p.inner.inputs) z) (sym p.are) (uniting-long 2 any_type p.branches p.inner p.unites))
+    (subst (λ (z : List Operand). SameLength (value_type.Boolean ∷ p.inner.inputs) z) (sym p.are) (uniting-long 2 any_type p.branches p.inner p.unites))
 
 pub leaf-long : (k : ValueType) (os : List Operand) (s : Signature) → leaf k os ≡ Some s → SameLength s.inputs os
 leaf-long k os s e =

@@ -3,12 +3,12 @@ use Rattle.std.proofs.Common.{◌≡◌, ℕ, List, Option, Some, None, sym, ap,
 use Rattle.std.specs.Prelude.{option_map}
 use Rattle.px_base.specs.declared.error.PlanError.{PlanError}
 use Rattle.px_types.specs.declared.value_type.ValueType.{ValueType}
-use Rattle.px_types.specs.Rows.{TypedRows, Contents}
+use Rattle.px_semantics.specs.Rows.{TypedRows, Contents}
 use Rattle.px_expr.specs.declared.context.Context.{Context}
 use Rattle.px_expr.specs.declared.context.Context.TheVariants.{Select, Filter}
 use Rattle.px_expr.specs.Kernel.{Kernel}
 use Rattle.px_expr.specs.Tree.{Tree, Trees}
-use Rattle.px_meaning.specs.Check.{HasKind}
+use Rattle.px_meaning.specs.Check.{HasType}
 use Rattle.px_meaning.specs.Faults.{OwnFault, HasFault, SomeHasFault, own, of_input, of_first, of_rest}
 use Rattle.px_meaning.specs.Laws.{KeepsMeaning}
 use Rattle.px_meaning.specs.Mean.{node_rows, rows, named, mean, Same}
@@ -17,13 +17,13 @@ use Rattle.px_meaning.specs.Rewriting.{StepsTo, at_top, at_input, InputStepsTo, 
 use Rattle.px_meaning.specs.Schema.{Fits}
 use Rattle.px_expr.specs.Plan.{Catalog}
 use Rattle.px_meaning.proofs.Around.{fold_tree-step, fold_trees-step}
-use Rattle.px_meaning.proofs.Typing.{Has, HaveAll, has, have_more, Has-HasKind, HasKind-Has}
+use Rattle.px_meaning.proofs.Typing.{Has, HaveAll, has, have_more, Has-HasType, HasType-Has}
 use Rattle.px_meaning.proofs.Weights.{weight-step}
 
-module _ (c : Catalog) (Rewrite : Tree → Tree → Type 0) (keeps : (t u : Tree) → Rewrite t u → (k : ValueType) → HasKind c t k → HasKind c u k) where
+module _ (c : Catalog) (Rewrite : Tree → Tree → Type 0) (keeps : (t u : Tree) → Rewrite t u → (k : ValueType) → HasType c t k → HasType c u k) where
   mutual
     Has-step : (t u : Tree) → StepsTo Rewrite t u → (k : ValueType) → Has c t k → Has c u k
-    Has-step t u (at_top rewrite) k h = HasKind-Has c u k (keeps t u rewrite k (Has-HasKind c t k h))
+    Has-step t u (at_top rewrite) k h = HasType-Has c u k (keeps t u rewrite k (Has-HasType c t k h))
     Has-step _ _ (at_input {us} {us' = vs} step) k (has {ks} free all signed) = has free (HaveAll-step us vs step ks all) signed
 
     HaveAll-step : (us vs : Trees) → InputStepsTo Rewrite us vs → (ks : List ValueType) → HaveAll c us ks → HaveAll c vs ks
@@ -31,8 +31,8 @@ module _ (c : Catalog) (Rewrite : Tree → Tree → Type 0) (keeps : (t u : Tree
     HaveAll-step _ _ (in_rest {us} {us' = vs} step) _ (have_more {ks} h all) = have_more h (HaveAll-step us vs step ks all)
 
   -- a step keeps the type of the whole tree
-  pub HasKind-step : (t u : Tree) → StepsTo Rewrite t u → (k : ValueType) → HasKind c t k → HasKind c u k
-  HasKind-step t u step k h = Has-HasKind c u k (Has-step t u step k (HasKind-Has c t k h))
+  pub HasType-step : (t u : Tree) → StepsTo Rewrite t u → (k : ValueType) → HasType c t k → HasType c u k
+  HasType-step t u step k h = Has-HasType c u k (Has-step t u step k (HasType-Has c t k h))
 
 module _ (kernels : List Kernel) (frame : List Contents) (Rewrite : Tree → Tree → Type 0)
     (keeps : (t u : Tree) → Rewrite t u → rows kernels frame t ≡ rows kernels frame u)
@@ -55,7 +55,7 @@ module _ (kernels : List Kernel) (frame : List Contents) (Rewrite : Tree → Tre
 pub StepsTo-keeps : (c : Catalog) (context : Context) (Rewrite : Tree → Tree → Type 0) → KeepsMeaning c context Rewrite → KeepsMeaning c context (StepsTo Rewrite)
 StepsTo-keeps c context Rewrite keeps =
     record {
-      kind = HasKind-step c Rewrite keeps.kind;
+      value_type = HasType-step c Rewrite keeps.value_type;
       rows = λ t u step frame fits. fold_tree-step (node_rows c.kernels frame) Rewrite (λ x y rewrite. keeps.rows x y rewrite frame fits) t u step;
       name = λ t u step select. fold_tree-step node_name Rewrite (λ x y rewrite. keeps.name x y rewrite select) t u step;
       faults = λ t u step frame fits. HasFault-step c.kernels frame Rewrite (λ x y rewrite. keeps.rows x y rewrite frame fits) (λ x y rewrite. keeps.faults x y rewrite frame fits) t u step;
@@ -64,19 +64,19 @@ StepsTo-keeps c context Rewrite keeps =
 
 -- what is reached has the type, the rows, the faults and the name of the tree that the steps began with
 pub record ReachKeepsMeaning (c : Catalog) (context : Context) (t u : Tree) : Type 0 where
-  pub kind : (k : ValueType) → HasKind c t k → HasKind c u k
+  pub value_type : (k : ValueType) → HasType c t k → HasType c u k
   pub rows : (frame : List Contents) → Fits frame c.schema → rows c.kernels frame t ≡ rows c.kernels frame u
   pub name : context ≡ Select → name t ≡ name u
   pub faults : (frame : List Contents) → Fits frame c.schema → (f : PlanError) → HasFault c.kernels frame u f → HasFault c.kernels frame t f
 
 module _ (c : Catalog) (context : Context) (Rewrite : Tree → Tree → Type 0) (keeps : KeepsMeaning c context Rewrite) where
   pub Reaches-keeps : (t u : Tree) → Reaches Rewrite t u → ReachKeepsMeaning c context t u
-  Reaches-keeps t _ stays = record { kind = λ k h. h; rows = λ frame fits. refl; name = λ select. refl; faults = λ frame fits f h. h }
+  Reaches-keeps t _ stays = record { value_type = λ k h. h; rows = λ frame fits. refl; name = λ select. refl; faults = λ frame fits f h. h }
   Reaches-keeps t u (goes_on {u = v} step rest) =
       let one = StepsTo-keeps c context Rewrite keeps in
       let more = Reaches-keeps v u rest in
       record {
-        kind = λ k h. more.kind k (one.kind t v step k h);
+        value_type = λ k h. more.value_type k (one.value_type t v step k h);
         rows = λ frame fits. one.rows t v step frame fits ∙ more.rows frame fits;
         name = λ select. one.name t v step select ∙ more.name select;
         faults = λ frame fits f h. one.faults t v step frame fits f (more.faults frame fits f h);

@@ -4,16 +4,16 @@ use Rattle.std.specs.Prelude.{option_and_then, option_map, not}
 use Rattle.std.proofs.lemmas.Bool.Decides.{nat_tests}
 use Rattle.px_base.specs.declared.error.PlanError.TheVariants.{InvalidOperation}
 use Rattle.px_types.proofs.CommonTypes.{common-null, common-same}
-use Rattle.px_types.specs.Classes.{is_number, is_integer_value, is_unsigned_value}
+use Rattle.px_types.specs.Classes.{is_boolean_or_integer, is_integer_value, is_unsigned_value}
 use Rattle.px_types.specs.ValueTypes.{value_type_of}
 use Rattle.px_types.specs.declared.dtype.DataType.{DataType}
-use Rattle.px_types.specs.declared.kinds.CastOptions.{CastOptions}
+use Rattle.px_types.specs.declared.type_parts.CastOptions.{CastOptions}
 use Rattle.px_types.specs.declared.function.BooleanFunction.TheVariants.{IsNull, IsNotNull, Not}
 use Rattle.px_types.specs.declared.function.FunctionExpr.TheVariants as function
 use Rattle.px_types.specs.declared.function.FusedOperator.{FusedOperator}
 use Rattle.px_types.specs.declared.operator.Operator.{Operator}
 use Rattle.px_types.specs.declared.value_type.ValueType.{ValueType}
-use Rattle.px_types.specs.declared.value_type.ValueType.TheVariants as kind
+use Rattle.px_types.specs.declared.value_type.ValueType.TheVariants as value_type
 use Rattle.px_expr.specs.declared.literal.LiteralValue.{LiteralValue}
 use Rattle.px_expr.specs.Tree.{Node, Alias, Literal, Binary, Cast, Ternary, Function}
 use Rattle.px_meaning.specs.Literals.{literal_rows}
@@ -68,20 +68,20 @@ three-long (a ∷ (b ∷ (d ∷ (k ∷ ks)))) e =
 pub unary-types : (result : ValueType → Option ValueType) (ks : List ValueType) (k : ValueType) → unary result (map Known ks) ≡ Some (signed ks k) → (j : ValueType) × (ks ≡ j ∷ []) × (result j ≡ Some k)
 unary-types result ks k e =
     let p = unary-parts result (map Known ks) (signed ks k) e in
-    (p.kind, p.takes, p.gives)
+    (p.value_type, p.takes, p.gives)
 
 -- the inputs of a node that unites two, or three
 pub two-types : (result : ValueType → Option ValueType) (ks : List ValueType) (k : ValueType) → uniting 2 result (map Known ks) ≡ Some (signed ks k) → (j : ValueType) × (ks ≡ j ∷ j ∷ []) × (result j ≡ Some k)
 two-types result ks k e =
     let p = uniting-parts 2 result (map Known ks) (signed ks k) e in
     let l = two-long ks p.many in
-    (p.kind, p.takes ∙ ap (λ (z : List ValueType). map (λ _. p.kind) (map Known z)) l.are, p.gives)
+    (p.value_type, p.takes ∙ ap (λ (z : List ValueType). map (λ _. p.value_type) (map Known z)) l.are, p.gives)
 
 pub three-types : (result : ValueType → Option ValueType) (ks : List ValueType) (k : ValueType) → uniting 3 result (map Known ks) ≡ Some (signed ks k) → (j : ValueType) × (ks ≡ j ∷ j ∷ j ∷ []) × (result j ≡ Some k)
 three-types result ks k e =
     let p = uniting-parts 3 result (map Known ks) (signed ks k) e in
     let l = three-long ks p.many in
-    (p.kind, p.takes ∙ ap (λ (z : List ValueType). map (λ _. p.kind) (map Known z)) l.are, p.gives)
+    (p.value_type, p.takes ∙ ap (λ (z : List ValueType). map (λ _. p.value_type) (map Known z)) l.are, p.gives)
 
 module _ (c : Catalog) where
   pub alias-types : (m : List ℕ) (ks : List ValueType) (k : ValueType) → Takes c (Alias m) ks k → ks ≡ k ∷ []
@@ -108,20 +108,20 @@ module _ (c : Catalog) where
   unfolding signature
   cast-types dtype options ks k e = unary-types (cast_type (value_type_of dtype)) ks k (from_option InvalidOperation (unary (cast_type (value_type_of dtype)) (map Known ks)) (signed ks k) e)
 
-  pub not-types : (ks : List ValueType) (k : ValueType) → Takes c (Function (function.Boolean Not)) ks k → (ks ≡ k ∷ []) × (is_number k ≡ true)
+  pub not-types : (ks : List ValueType) (k : ValueType) → Takes c (Function (function.Boolean Not)) ks k → (ks ≡ k ∷ []) × (is_boolean_or_integer k ≡ true)
   unfolding signature
   not-types ks k e =
       let (j, f, g) = unary-types number_type ks k (from_option InvalidOperation (unary number_type (map Known ks)) (signed ks k) e) in
-      let (h, i) = given-parts (is_number j) j k g in
-      (f ∙ ap (λ (x : ValueType). x ∷ []) i, subst (λ (x : ValueType). is_number x ≡ true) i h)
+      let (h, i) = given-parts (is_boolean_or_integer j) j k g in
+      (f ∙ ap (λ (x : ValueType). x ∷ []) i, subst (λ (x : ValueType). is_boolean_or_integer x ≡ true) i h)
 
-  pub is_null-types : (ks : List ValueType) (k : ValueType) → Takes c (Function (function.Boolean IsNull)) ks k → (j : ValueType) × (ks ≡ j ∷ []) × (k ≡ kind.Boolean)
+  pub is_null-types : (ks : List ValueType) (k : ValueType) → Takes c (Function (function.Boolean IsNull)) ks k → (j : ValueType) × (ks ≡ j ∷ []) × (k ≡ value_type.Boolean)
   unfolding signature
   is_null-types ks k e =
       let (j, f, g) = unary-types truth_type ks k (from_option InvalidOperation (unary truth_type (map Known ks)) (signed ks k) e) in
       (j, f, cc)
 
-  pub is_not_null-types : (ks : List ValueType) (k : ValueType) → Takes c (Function (function.Boolean IsNotNull)) ks k → (j : ValueType) × (ks ≡ j ∷ []) × (k ≡ kind.Boolean)
+  pub is_not_null-types : (ks : List ValueType) (k : ValueType) → Takes c (Function (function.Boolean IsNotNull)) ks k → (j : ValueType) × (ks ≡ j ∷ []) × (k ≡ value_type.Boolean)
   unfolding signature
   is_not_null-types ks k e =
       let (j, f, g) = unary-types truth_type ks k (from_option InvalidOperation (unary truth_type (map Known ks)) (signed ks k) e) in
@@ -171,15 +171,15 @@ module _ (c : Catalog) where
       ap (λ (u : Option ValueType). or_fault InvalidOperation (option_and_then (of_united (group_type (group_of o)) os) u)) (united-two j)
       ∙ ap (λ (r : Option ValueType). or_fault InvalidOperation (option_map (λ x. signed (j ∷ j ∷ []) x) r)) e
 
-  pub takes-not : (k : ValueType) → is_number k ≡ true → Takes c (Function (function.Boolean Not)) (k ∷ []) k
+  pub takes-not : (k : ValueType) → is_boolean_or_integer k ≡ true → Takes c (Function (function.Boolean Not)) (k ∷ []) k
   unfolding signature
   takes-not k e = ap (λ (b : Bool). or_fault InvalidOperation (option_map (λ r. signed (k ∷ []) r) (given b k))) e
 
-  pub takes-is_null : (j : ValueType) → Takes c (Function (function.Boolean IsNull)) (j ∷ []) kind.Boolean
+  pub takes-is_null : (j : ValueType) → Takes c (Function (function.Boolean IsNull)) (j ∷ []) value_type.Boolean
   unfolding signature
   takes-is_null j = refl
 
-  pub takes-is_not_null : (j : ValueType) → Takes c (Function (function.Boolean IsNotNull)) (j ∷ []) kind.Boolean
+  pub takes-is_not_null : (j : ValueType) → Takes c (Function (function.Boolean IsNotNull)) (j ∷ []) value_type.Boolean
   unfolding signature
   takes-is_not_null j = refl
 
@@ -190,7 +190,7 @@ module _ (c : Catalog) where
       ap (λ (u : Option ValueType). or_fault InvalidOperation (option_and_then (of_united integer_type os) u)) (united-three k)
       ∙ ap (λ (b : Bool). or_fault InvalidOperation (option_map (λ x. signed (k ∷ k ∷ k ∷ []) x) (given b k))) e
 
-  pub ternary-types : (ks : List ValueType) (k : ValueType) → Takes c Ternary ks k → ks ≡ kind.Boolean ∷ k ∷ k ∷ []
+  pub ternary-types : (ks : List ValueType) (k : ValueType) → Takes c Ternary ks k → ks ≡ value_type.Boolean ∷ k ∷ k ∷ []
   unfolding signature
   ternary-types ks k e =
       let p = ternary-parts (map Known ks) (signed ks k) (from_option InvalidOperation (ternary_signature (map Known ks)) (signed ks k) e) in
@@ -198,11 +198,11 @@ module _ (c : Catalog) where
     where
       go :
           (ks : List ValueType) (mask : Operand) (branches : List Operand) (inner : Signature) → map Known ks ≡ mask ∷ branches → uniting 2 any_type branches ≡ Some inner →
-          signed ks k ≡ masked inner → ks ≡ kind.Boolean ∷ k ∷ k ∷ []
+          signed ks k ≡ masked inner → ks ≡ value_type.Boolean ∷ k ∷ k ∷ []
       go [] mask branches inner are unites whole = cc
       go (j ∷ js) mask branches inner are unites whole =
           let rest : map Known js ≡ branches = cc in
-          let first : j ∷ js ≡ kind.Boolean ∷ inner.inputs = ap (λ (s : Signature). s.inputs) whole in
+          let first : j ∷ js ≡ value_type.Boolean ∷ inner.inputs = ap (λ (s : Signature). s.inputs) whole in
           let result : k ≡ inner.result = ap (λ (s : Signature). s.result) whole in
           let same : js ≡ inner.inputs = cc in
           let whole' : signed inner.inputs inner.result ≡ signed js k = ap (λ (z : List ValueType). signed z inner.result) (sym same) ∙ ap (signed js) (sym result) in
@@ -210,4 +210,4 @@ module _ (c : Catalog) where
           let u : uniting 2 any_type (map Known js) ≡ Some (signed js k) = at_rest ∙ ap Some whole' in
           let (l, f, g) = two-types any_type js k u in
           let is : l ≡ k = cc in
-          first ∙ ap (λ (z : List ValueType). kind.Boolean ∷ z) (sym same ∙ f ∙ ap (λ (z : ValueType). z ∷ z ∷ []) is)
+          first ∙ ap (λ (z : List ValueType). value_type.Boolean ∷ z) (sym same ∙ f ∙ ap (λ (z : ValueType). z ∷ z ∷ []) is)

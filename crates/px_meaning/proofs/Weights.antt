@@ -53,13 +53,13 @@ module _ (Rewrite : Tree → Tree → Type 0) (lighter : (t u : Tree) → Rewrit
     weights-replaced : (t t' : Tree) → Rewrite t t' → (us vs : Trees) → ReplacedAll t t' us vs → (us ≡ vs) ⊎ (weights vs < weights us)
     weights-replaced t t' rewrite us vs ended = inl refl
     weights-replaced t t' rewrite us vs (both {u} {u' = v} {us = xs} {us' = ys} one all) =
-        joined (weight-replaced t t' rewrite u v one) (weights-replaced t t' rewrite xs ys all)
+        broadcast_length (weight-replaced t t' rewrite u v one) (weights-replaced t t' rewrite xs ys all)
       where
-        joined : (u ≡ v) ⊎ (weight v < weight u) → (xs ≡ ys) ⊎ (weights ys < weights xs) → (more u xs ≡ more v ys) ⊎ (weights (more v ys) < weights (more u xs))
-        joined (inl e) (inl f) = inl cc
-        joined (inl e) (inr h) = let g : weight u ≡ weight v = ap weight e in inr (omega (arith, weights-more u xs, weights-more v ys))
-        joined (inr h) (inl f) = let g : weights xs ≡ weights ys = ap weights f in inr (omega (arith, weights-more u xs, weights-more v ys))
-        joined (inr h) (inr k) = inr (omega (arith, weights-more u xs, weights-more v ys))
+        broadcast_length : (u ≡ v) ⊎ (weight v < weight u) → (xs ≡ ys) ⊎ (weights ys < weights xs) → (more u xs ≡ more v ys) ⊎ (weights (more v ys) < weights (more u xs))
+        broadcast_length (inl e) (inl f) = inl cc
+        broadcast_length (inl e) (inr h) = let g : weight u ≡ weight v = ap weight e in inr (omega (arith, weights-more u xs, weights-more v ys))
+        broadcast_length (inr h) (inl f) = let g : weights xs ≡ weights ys = ap weights f in inr (omega (arith, weights-more u xs, weights-more v ys))
+        broadcast_length (inr h) (inr k) = inr (omega (arith, weights-more u xs, weights-more v ys))
 
   -- each move lowers the weight of the list
   pub weights-moves : (us vs : Trees) (r : ℕ) → Moves Rewrite us vs r → weights vs + r ≤ weights us

@@ -4,15 +4,15 @@ use Rattle.std.specs.Prelude.{◌≡◌, ℕ, Bool, true, false, List, [], ◌�
 use Rattle.px_base.specs.declared.error.PlanError.{PlanError}
 use Rattle.px_base.specs.declared.error.PlanError.TheVariants.{ShapeMismatch, InvalidCast}
 use Rattle.px_types.specs.declared.dtype.DataType.{DataType}
-use Rattle.px_types.specs.declared.kinds.CastOptions.TheVariants.{Strict}
+use Rattle.px_types.specs.declared.type_parts.CastOptions.TheVariants.{Strict}
 use Rattle.px_types.specs.declared.value_type.ValueType.{ValueType}
 use Rattle.px_types.specs.declared.function.FunctionExpr.TheVariants as function
-use Rattle.px_types.specs.Casts.{any_lost, cast_value}
-use Rattle.px_types.specs.Rows.{TypedRows, Contents}
+use Rattle.px_semantics.specs.Casts.{any_lost, cast_value}
+use Rattle.px_semantics.specs.Rows.{TypedRows, Contents}
 use Rattle.px_types.specs.ValueTypes.{value_type_of}
 use Rattle.px_expr.specs.Kernel.{Kernel}
 use Rattle.px_expr.specs.Tree.{Node, Binary, Cast, Ternary, Function, Tree, tree, Trees, more, fold_trees}
-use Rattle.px_meaning.specs.Mean.{all_of, node_rows, joined_all}
+use Rattle.px_meaning.specs.Mean.{all_of, node_rows, broadcast_length_all}
 
 -- whether a node joins the lengths of its inputs
 abbrev pub is_joining : Node → Bool
@@ -24,9 +24,9 @@ is_joining _ = false
 abbrev pub lengths : List TypedRows → List ℕ
 lengths inputs = map (λ (a : TypedRows). length a.rows) inputs
 
--- all inputs mean columns, whose lengths do not join
+-- all inputs mean columns, whose lengths do not broadcast
 abbrev pub HasUnevenInputs : List (Option TypedRows) → Type 0
-HasUnevenInputs inputs = (columns : List TypedRows) × (all_of inputs ≡ Some columns) × (joined_all (lengths columns) ≡ None)
+HasUnevenInputs inputs = (columns : List TypedRows) × (all_of inputs ≡ Some columns) × (broadcast_length_all (lengths columns) ≡ None)
 
 -- the input means a column with a value that the type lacks
 abbrev pub LosesValue : ValueType → List (Option TypedRows) → Type 0

@@ -6,13 +6,13 @@ use Rattle.px_types.specs.declared.function.BooleanFunction.TheVariants.{IsNull,
 use Rattle.px_types.specs.declared.function.FunctionExpr.{FunctionExpr}
 use Rattle.px_types.specs.declared.function.FunctionExpr.TheVariants as function
 use Rattle.px_types.specs.declared.operator.Operator.{Operator}
-use Rattle.px_types.specs.Arithmetic.{arith_rows, negate_rows}
-use Rattle.px_types.specs.Casts.{cast_to}
-use Rattle.px_types.specs.Choices.{choose_rows}
-use Rattle.px_types.specs.Comparisons.{compare_rows}
-use Rattle.px_types.specs.Fused.{fused_rows}
-use Rattle.px_types.specs.Logic.{logic_rows, inverse_rows, tested_rows, null_row, value_row}
-use Rattle.px_types.specs.Rows.{TypedRows, Contents, joined, stretch}
+use Rattle.px_semantics.specs.Arithmetic.{arith_rows, negate_rows}
+use Rattle.px_semantics.specs.Casts.{cast_to}
+use Rattle.px_semantics.specs.Selections.{select_rows}
+use Rattle.px_semantics.specs.Comparisons.{compare_rows}
+use Rattle.px_semantics.specs.Fused.{fused_rows}
+use Rattle.px_semantics.specs.Logic.{logic_rows, inverse_rows, tested_rows, null_row, value_row}
+use Rattle.px_semantics.specs.Rows.{TypedRows, Contents, broadcast_length, stretch}
 use Rattle.px_expr.specs.declared.context.Context.{Context}
 use Rattle.px_expr.specs.declared.context.Context.TheVariants.{Select, Filter}
 use Rattle.px_expr.specs.Kernel.{Kernel}
@@ -60,7 +60,7 @@ own_rows kernels frame (Column n) inputs = column_at frame n
 own_rows kernels frame (Literal v) inputs = literal_rows v
 own_rows kernels frame (Binary o) inputs = binary_rows o inputs
 own_rows kernels frame (Cast dtype options) inputs = of_one (cast_to options dtype) inputs
-own_rows kernels frame Ternary inputs = of_three choose_rows inputs
+own_rows kernels frame Ternary inputs = of_three select_rows inputs
 own_rows kernels frame (Function f) inputs = function_rows f inputs
 own_rows kernels frame _ inputs = None
 
@@ -91,25 +91,25 @@ Same Filter (Some a) (Some b) = a.values ≡ b.values
 Same c None None = Unit {0}
 Same c _ _ = ⊥
 
--- the length to which lengths join: that of all that are not one, or one
-abbrev pub joined_all : List ℕ → Option ℕ
-joined_all [] = Some 1
-joined_all (n ∷ []) = Some n
-joined_all (m ∷ (n ∷ ns)) = option_and_then (joined m) (joined_all (n ∷ ns))
+-- the length to which lengths broadcast: that of all that are not one, or one
+abbrev pub broadcast_length_all : List ℕ → Option ℕ
+broadcast_length_all [] = Some 1
+broadcast_length_all (n ∷ []) = Some n
+broadcast_length_all (m ∷ (n ∷ ns)) = option_and_then (broadcast_length m) (broadcast_length_all (n ∷ ns))
 
 -- a mask has no name
-abbrev pub shown_name : Context → List ℕ → List ℕ
-shown_name Select n = n
-shown_name Filter n = []
+abbrev pub answer_name : Context → List ℕ → List ℕ
+answer_name Select n = n
+answer_name Filter n = []
 
--- the column as it is answered, with its rows stretched
-abbrev pub shown : Context → ℕ → Contents → Contents
-shown context n c = named (shown_name context c.name) (record { kind = c.values.kind; rows = stretch n c.values.rows })
+-- the column as it is answered, with its rows broadcast
+abbrev pub as_answer : Context → ℕ → Contents → Contents
+as_answer context n c = named (answer_name context c.name) (record { value_type = c.values.value_type; rows = stretch n c.values.rows })
 
 abbrev pub lined_up : Context → List Contents → Option (List Contents)
-lined_up context columns = option_map (λ n. map (shown context n) columns) (joined_all (map (λ (c : Contents). length c.values.rows) columns))
+lined_up context columns = option_map (λ n. map (as_answer context n) columns) (broadcast_length_all (map (λ (c : Contents). length c.values.rows) columns))
 
--- the columns that a list of trees means, each stretched to the length to which all join; nothing where a tree
--- means nothing or the lengths do not join
+-- the columns that a list of trees means, each broadcast to the common length of all; nothing where a tree
+-- means nothing or the lengths do not broadcast
 abbrev pub mean_list : List Kernel → List Contents → Context → List Tree → Option (List Contents)
 mean_list kernels frame context ts = option_and_then (lined_up context) (all_of (map (mean kernels frame) ts))

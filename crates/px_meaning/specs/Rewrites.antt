@@ -1,8 +1,8 @@
 -- The rewrites, one constructor for each, and what they say of literals.
 use Rattle.std.specs.Prelude.{◌≡◌, ◌≢◌, ℤ, pos, neg_ℤ, Bool, true, false, not, [], ◌∷◌, Some}
-use Rattle.px_types.specs.Arithmetic.{arith_row}
-use Rattle.px_types.specs.Comparisons.{compare_row, IsComparison}
-use Rattle.px_types.specs.Logic.{truth_row}
+use Rattle.px_semantics.specs.Arithmetic.{arith_row}
+use Rattle.px_semantics.specs.Comparisons.{compare_row, IsComparison}
+use Rattle.px_semantics.specs.Logic.{boolean_logic_row}
 use Rattle.px_types.specs.declared.function.BooleanFunction.TheVariants as boolean
 use Rattle.px_types.specs.declared.function.FunctionExpr.{FunctionExpr}
 use Rattle.px_types.specs.declared.function.FunctionExpr.TheVariants as function
@@ -11,8 +11,8 @@ use Rattle.px_types.specs.declared.function.FusedOperator.TheVariants.{MultiplyA
 use Rattle.px_types.specs.declared.operator.Operator.{Operator}
 use Rattle.px_types.specs.declared.operator.Operator.TheVariants as op
 use Rattle.px_types.specs.declared.value_type.ValueType.{ValueType}
-use Rattle.px_types.specs.declared.value_type.ValueType.TheVariants as kind
-use Rattle.px_types.specs.Rows.{Datum, Truth, Integer, Row}
+use Rattle.px_types.specs.declared.value_type.ValueType.TheVariants as value_type
+use Rattle.px_semantics.specs.Rows.{Datum, Truth, Integer, Row}
 use Rattle.px_types.specs.Integers.{into, IsInteger}
 use Rattle.px_expr.specs.declared.context.Context.{Context}
 use Rattle.px_expr.specs.declared.context.Context.TheVariants.{Filter}
@@ -21,7 +21,7 @@ use Rattle.px_expr.specs.declared.literal.LiteralValue.TheVariants as lit
 use Rattle.px_expr.specs.Tree.{Node, Alias, Literal, Binary, Function, Tree, tree, Trees, none, more, over}
 use Rattle.px_meaning.specs.declared.rewrite.RewriteName.{RewriteName}
 use Rattle.px_meaning.specs.declared.rewrite.RewriteName.TheVariants as named
-use Rattle.px_meaning.specs.Check.{literal, HasKind, IsChecked}
+use Rattle.px_meaning.specs.Check.{literal, HasType, IsChecked}
 use Rattle.px_meaning.specs.Literals.{scalar_of, row_literal, is_scalar}
 use Rattle.px_meaning.specs.Names.{name}
 use Rattle.px_expr.specs.Plan.{Catalog}
@@ -85,10 +85,10 @@ IsLogical op.Xor = Unit {0}
 IsLogical _ = ⊥
 
 abbrev pub IsSigned : ValueType → Type 0
-IsSigned kind.Int8 = Unit {0}
-IsSigned kind.Int16 = Unit {0}
-IsSigned kind.Int32 = Unit {0}
-IsSigned kind.Int64 = Unit {0}
+IsSigned value_type.Int8 = Unit {0}
+IsSigned value_type.Int16 = Unit {0}
+IsSigned value_type.Int32 = Unit {0}
+IsSigned value_type.Int64 = Unit {0}
 IsSigned _ = ⊥
 
 -- the literal has this value of this type
@@ -113,13 +113,13 @@ abbrev mutual
   HaveNoLiteral (more u us) = HasNoLiteral u × HaveNoLiteral us
 
 -- the tree is checked with an integer type
-abbrev pub HasIntegerKind : Catalog → Tree → Type 0
-HasIntegerKind c t = (k : ValueType) × HasKind c t k × IsInteger k
+abbrev pub HasIntegerType : Catalog → Tree → Type 0
+HasIntegerType c t = (k : ValueType) × HasType c t k × IsInteger k
 
 -- both operands of a sum or a difference have integer types, and no literal stands in either
 pub record MayFuse (c : Catalog) (left right : Tree) : Type 0 where
-  pub left_integer : HasIntegerKind c left
-  pub right_integer : HasIntegerKind c right
+  pub left_integer : HasIntegerType c left
+  pub right_integer : HasIntegerType c right
   pub left_free : HasNoLiteral left
   pub right_free : HasNoLiteral right
 
@@ -139,8 +139,8 @@ pub data Rewrites (c : Catalog) (context : Context) : RewriteName → Tree → T
   C11 : {o : Operator} {v w : LiteralValue} {k : ValueType} {x y : ℤ} → IsDivision o → IsScalarOf v k (Integer x) → IsScalarOf w k (Integer y) → y ≢ pos 0 →
       Rewrites c context named.C11 (binary o (literal v) (literal w)) (folded k (arith_row o k (Some (Integer x)) (Some (Integer y))))
   C12 : {o : Operator} {v w : LiteralValue} {k : ValueType} {d e : Datum} → IsComparison o → IsScalarOf v k d → IsScalarOf w k e →
-      Rewrites c context named.C12 (binary o (literal v) (literal w)) (folded kind.Boolean (compare_row o (Some d) (Some e)))
-  C13 : {o : Operator} {s t : Bool} → IsLogical o → Rewrites c context named.C13 (binary o (truth s) (truth t)) (folded kind.Boolean (truth_row o (Some (Truth s)) (Some (Truth t))))
+      Rewrites c context named.C12 (binary o (literal v) (literal w)) (folded value_type.Boolean (compare_row o (Some d) (Some e)))
+  C13 : {o : Operator} {s t : Bool} → IsLogical o → Rewrites c context named.C13 (binary o (truth s) (truth t)) (folded value_type.Boolean (boolean_logic_row o (Some (Truth s)) (Some (Truth t))))
   C14 : {o : Operator} {a b : Tree} → IsConjunction o → Rewrites c context named.C14 (not_tree (binary o a b)) (binary op.Or (not_tree a) (not_tree b))
   C15 : {o : Operator} {a b : Tree} → IsDisjunction o → Rewrites c context named.C15 (not_tree (binary o a b)) (binary op.And (not_tree a) (not_tree b))
   C16 : {x : Tree} → Rewrites c context named.C16 (not_tree (not_tree x)) x

@@ -2,7 +2,7 @@
 -- type alone, or the value of an integer literal whose type the node settles.
 use Rattle.std.specs.Prelude.{ℕ, ◌==◌, ℤ, Bool, true, false, not, ◌&&◌, ◌||◌, if◌then◌else◌, List, [], ◌∷◌, map, length, Option, Some, None, option_map, option_and_then}
 use Rattle.px_base.specs.Exact.{same}
-use Rattle.px_types.specs.Classes.{is_integer_value, is_unsigned_value, is_number}
+use Rattle.px_types.specs.Classes.{is_integer_value, is_unsigned_value, is_boolean_or_integer}
 use Rattle.px_types.specs.ValueTypes.{value_type_of, common, holds, default_type}
 use Rattle.px_types.specs.contracts.value_type.ValueType.{the_row}
 use Rattle.px_types.specs.declared.function.BooleanFunction.{BooleanFunction}
@@ -12,12 +12,12 @@ use Rattle.px_types.specs.declared.function.FunctionExpr.TheVariants as function
 use Rattle.px_types.specs.declared.operator.Operator.{Operator}
 use Rattle.px_types.specs.declared.operator.Operator.TheVariants as op
 use Rattle.px_types.specs.declared.value_type.ValueType.{ValueType}
-use Rattle.px_types.specs.declared.value_type.ValueType.TheVariants as kind
-use Rattle.px_types.specs.Rows.{TypedRows}
+use Rattle.px_types.specs.declared.value_type.ValueType.TheVariants as value_type
+use Rattle.px_semantics.specs.Rows.{TypedRows}
 use Rattle.px_expr.specs.Kernel.{Kernel}
 use Rattle.px_expr.specs.Tree.{Node, Alias, Literal, Binary, Cast, Ternary, Function}
 use Rattle.px_expr.specs.declared.literal.LiteralValue.{LiteralValue}
-use Rattle.px_types.specs.Columns.{is_boolean, is_column}
+use Rattle.px_semantics.specs.Columns.{is_boolean, is_column}
 use Rattle.px_meaning.specs.Literals.{literal_rows}
 
 -- an input of a known type, or an integer literal that has none yet
@@ -72,7 +72,7 @@ widened os None = None
 -- the type to which inputs unite: the common type of those that have one, and of the default types of the
 -- integer literals that this type does not hold. `Null` is neutral.
 unfoldable pub united : List Operand → Option ValueType
-united os = widened os (common_all (Some kind.Null) (known_types os))
+united os = widened os (common_all (Some value_type.Null) (known_types os))
 
 -- no inputs, and this type
 abbrev pub leaf : ValueType → List Operand → Option Signature
@@ -105,18 +105,18 @@ signed_type k = given (is_integer_value k && not (is_unsigned_value k)) k
 
 -- `Boolean` or an integer type
 abbrev pub number_type : ValueType → Option ValueType
-number_type k = given (is_number k) k
+number_type k = given (is_boolean_or_integer k) k
 
 abbrev pub boolean_type : ValueType → Option ValueType
 boolean_type k = given (is_boolean k) k
 
 -- `Boolean`, of inputs of any type
 abbrev pub truth_type : ValueType → Option ValueType
-truth_type k = Some kind.Boolean
+truth_type k = Some value_type.Boolean
 
 -- a literal whose rows are a column has their type
 abbrev pub literal_type : Option TypedRows → Option ValueType
-literal_type (Some values) = given (is_column values) values.kind
+literal_type (Some values) = given (is_column values) values.value_type
 literal_type None = None
 
 abbrev pub literal_signature : LiteralValue → List Operand → Option Signature
@@ -162,8 +162,8 @@ group_type Fractional k = None
 
 -- `Null`, `Boolean` or an integer type
 abbrev pub is_castable : ValueType → Bool
-is_castable kind.Null = true
-is_castable k = is_number k
+is_castable value_type.Null = true
+is_castable k = is_boolean_or_integer k
 
 -- a cast keeps the type, or goes from one castable type to another
 -- core language only: no casts to texts or from them
@@ -173,12 +173,12 @@ cast_type None from = None
 
 -- a mask is `Boolean`, or `Null` and is cast
 abbrev pub is_mask : Option ValueType → Bool
-is_mask (Some kind.Boolean) = true
-is_mask (Some kind.Null) = true
+is_mask (Some value_type.Boolean) = true
+is_mask (Some value_type.Null) = true
 is_mask _ = false
 
 abbrev pub masked : Signature → Signature
-masked s = record { inputs = kind.Boolean ∷ s.inputs; result = s.result }
+masked s = record { inputs = value_type.Boolean ∷ s.inputs; result = s.result }
 
 -- a mask, and two branches that unite
 abbrev pub ternary_signature : List Operand → Option Signature

@@ -5,19 +5,19 @@ ghost use Rattle.px_base.specs.declared.error.PlanError.{PlanError};
 ghost use Rattle.px_types.specs.declared.dtype.DataType.TheVariants as dtype;
 ghost use Rattle.px_types.specs.declared.operator.Operator.TheVariants as op;
 ghost use Rattle.px_types.specs.declared.value_type.ValueType.{ValueType};
-ghost use Rattle.px_types.specs.declared.value_type.ValueType.TheVariants as kind;
+ghost use Rattle.px_types.specs.declared.value_type.ValueType.TheVariants as value_type;
 ghost use Rattle.px_types.specs.Schemas.{first_repeated};
-ghost use Rattle.px_types.specs.Rows.{TypedRows, Contents};
+ghost use Rattle.px_semantics.specs.Rows.{TypedRows, Contents};
 ghost use Rattle.px_expr.specs.declared.context.Context.{Context};
 ghost use Rattle.px_expr.specs.declared.context.Context.TheVariants.{Select, Filter};
 ghost use Rattle.px_expr.specs.declared.literal.LiteralValue.TheVariants as lit;
 ghost use Rattle.px_expr.specs.Tree.{Column, Tree, Trees, none, more, trees, over};
-ghost use Rattle.px_types.specs.Columns.{IsColumn};
+ghost use Rattle.px_semantics.specs.Columns.{IsColumn};
 ghost use Rattle.px_meaning.specs.Schema.{Fits};
 ghost use Rattle.px_expr.specs.Plan.{Catalog, catalog_of};
 ghost use Rattle.px_meaning.specs.Mean.{rows, mean, Same, mean_list};
 ghost use Rattle.px_meaning.specs.Faults.{HasFault};
-ghost use Rattle.px_meaning.specs.Check.{Typed, literal, cast_tree, check, HasKind, check_list};
+ghost use Rattle.px_meaning.specs.Check.{Typed, literal, cast_tree, check, HasType, check_list};
 ghost use Rattle.px_meaning.specs.Lowerable.{IsLowerable};
 ghost use Rattle.px_meaning.specs.Names.{name};
 ghost use Rattle.px_meaning.specs.Laws.{KeepsMeaning};
@@ -29,19 +29,19 @@ ghost use Rattle.px_meaning.specs.Weight.{weight, weights, nodes, nots, node_cou
 /// A checked tree that means something on a fitting frame means a column of its type: fewer than
 /// 2^32 rows, each of them null or a value of the type.
 pub fn checked_trees_mean_columns()
-    ensures kind { (c : Catalog) (t : Tree) (k : ValueType) (frame : List Contents) (v : TypedRows) →
-        HasKind c t k → Fits frame c.schema → rows c.kernels frame t ≡ Some v → v.kind ≡ k }
+    ensures value_type { (c : Catalog) (t : Tree) (k : ValueType) (frame : List Contents) (v : TypedRows) →
+        HasType c t k → Fits frame c.schema → rows c.kernels frame t ≡ Some v → v.value_type ≡ k }
     ensures column { (c : Catalog) (t : Tree) (k : ValueType) (frame : List Contents) (v : TypedRows) →
-        HasKind c t k → Fits frame c.schema → rows c.kernels frame t ≡ Some v → IsColumn v }
+        HasType c t k → Fits frame c.schema → rows c.kernels frame t ≡ Some v → IsColumn v }
 {}
 
 /// A checked tree means nothing on a fitting frame exactly where it has a fault.
 pub fn faulty_trees_mean_nothing()
     ensures nothing { (c : Catalog) (t : Tree) (k : ValueType) (frame : List Contents) →
-        HasKind c t k → Fits frame c.schema → rows c.kernels frame t ≡ None →
+        HasType c t k → Fits frame c.schema → rows c.kernels frame t ≡ None →
         (f : PlanError) × HasFault c.kernels frame t f }
     ensures faulty { (c : Catalog) (t : Tree) (k : ValueType) (frame : List Contents) (f : PlanError) →
-        HasKind c t k → Fits frame c.schema → HasFault c.kernels frame t f → rows c.kernels frame t ≡ None }
+        HasType c t k → Fits frame c.schema → HasFault c.kernels frame t f → rows c.kernels frame t ≡ None }
 {}
 
 /// A rewrite keeps the type of the tree that it replaces, its rows on every fitting frame and, in a
@@ -58,8 +58,8 @@ pub fn steps_keep_meaning()
 /// A tree that rewrites reach has the type of the tree that they began with, means the same on every
 /// fitting frame, has no other faults, and is no heavier.
 pub fn reached_trees_keep_meaning()
-    ensures kind { (c : Catalog) (context : Context) (t u : Tree) → Reaches (IsRewrite c context) t u →
-        (k : ValueType) → HasKind c t k → HasKind c u k }
+    ensures value_type { (c : Catalog) (context : Context) (t u : Tree) → Reaches (IsRewrite c context) t u →
+        (k : ValueType) → HasType c t k → HasType c u k }
     ensures same { (c : Catalog) (context : Context) (t u : Tree) → Reaches (IsRewrite c context) t u →
         (frame : List Contents) → Fits frame c.schema →
         Same context (mean c.kernels frame t) (mean c.kernels frame u) }
@@ -97,7 +97,7 @@ pub fn reached_lists_are_checked()
         check_list c context ts ≡ Ok vs →
         AllReach (IsRewrite c context) (trees (map (λ (v : Typed). v.tree) vs)) (trees us) →
         (ws : List Typed) × (check_list c context us ≡ Ok ws) × (map (λ (w : Typed). w.tree) ws ≡ us) ×
-        (map (λ (w : Typed). w.kind) ws ≡ map (λ (v : Typed). v.kind) vs) }
+        (map (λ (w : Typed). w.value_type) ws ≡ map (λ (v : Typed). v.value_type) vs) }
 {}
 
 /// Lists whose trees reach those in their places are answered alike on every fitting frame: the same
@@ -115,7 +115,7 @@ pub fn reached_lists_mean_the_same()
 
 /// What the check gives is checked.
 pub fn the_check_gives_checked_trees()
-    ensures { (c : Catalog) (t : Tree) (v : Typed) → check c t ≡ Ok v → HasKind c v.tree v.kind }
+    ensures { (c : Catalog) (t : Tree) (v : Typed) → check c t ≡ Ok v → HasType c v.tree v.value_type }
 {}
 
 /// A checked list has, in their order, what the check gives of each tree, all checked. Masks are
@@ -126,9 +126,9 @@ pub fn checked_lists()
     ensures count { (c : Catalog) (context : Context) (ts : List Tree) (vs : List Typed) →
         check_list c context ts ≡ Ok vs → length vs ≡ length ts }
     ensures checked { (c : Catalog) (context : Context) (ts : List Tree) (vs : List Typed) →
-        check_list c context ts ≡ Ok vs → All (λ (v : Typed). HasKind c v.tree v.kind) vs }
+        check_list c context ts ≡ Ok vs → All (λ (v : Typed). HasType c v.tree v.value_type) vs }
     ensures masks { (c : Catalog) (ts : List Tree) (vs : List Typed) →
-        check_list c Filter ts ≡ Ok vs → All (λ (v : Typed). v.kind ≡ kind.Boolean) vs }
+        check_list c Filter ts ≡ Ok vs → All (λ (v : Typed). v.value_type ≡ value_type.Boolean) vs }
     ensures names { (c : Catalog) (ts : List Tree) (vs : List Typed) →
         check_list c Select ts ≡ Ok vs → first_repeated (map (λ (v : Typed). name v.tree) vs) ≡ None }
 {}
@@ -140,8 +140,8 @@ pub fn checked_trees_are_lowerable()
 
 /// `Null` is neutral, and Boolean gives way to every integer type.
 pub fn types_unite()
-    ensures null { united (Known kind.Null ∷ Known kind.Int32 ∷ []) ≡ Some kind.Int32 }
-    ensures boolean { united (Known kind.Boolean ∷ Known kind.Int16 ∷ []) ≡ Some kind.Int16 }
+    ensures null { united (Known value_type.Null ∷ Known value_type.Int32 ∷ []) ≡ Some value_type.Int32 }
+    ensures boolean { united (Known value_type.Boolean ∷ Known value_type.Int16 ∷ []) ≡ Some value_type.Int16 }
 {}
 
 /// Beside a column of the type UInt8 the integer literal 5 has that type, and 300 takes both to Int32.
@@ -149,11 +149,11 @@ pub fn literals_take_the_type_of_their_column()
     ensures held { let a : Tree = over (Column (codes "a")) [] in
         check (catalog_of (record { name = codes "a"; dtype = dtype.UInt8 } ∷ []) [])
         (binary op.Plus a (literal (lit.Int (pos 5)))) ≡
-        Ok (record { tree = binary op.Plus a (literal (lit.UInt8 5)); kind = kind.UInt8 }) }
+        Ok (record { tree = binary op.Plus a (literal (lit.UInt8 5)); value_type = value_type.UInt8 }) }
     ensures wider { let a : Tree = over (Column (codes "a")) [] in
         check (catalog_of (record { name = codes "a"; dtype = dtype.UInt8 } ∷ []) [])
         (binary op.Lt a (literal (lit.Int (pos 300)))) ≡
-        Ok (record { tree = binary op.Lt (cast_tree kind.Int32 a) (literal (lit.Int32 (pos 300))); kind = kind.Boolean }) }
+        Ok (record { tree = binary op.Lt (cast_tree value_type.Int32 a) (literal (lit.Int32 (pos 300))); value_type = value_type.Boolean }) }
 {}
 
 /// An operator weighs 3 and a leaf 1, and a `not` doubles what stands under it. So a `not` that goes
@@ -168,7 +168,8 @@ pub fn nots_double_weights()
 /// Integer literals take the common type of the inputs beside them where that holds them, and widen
 /// it by their default types where it does not.
 pub fn literals_unite_with_their_neighbours()
-    ensures wider { united (Known kind.UInt8 ∷ Free (pos 300) ∷ []) ≡ Some kind.Int32 }
-    ensures none { united (Known kind.UInt64 ∷ Free (negsuc 0) ∷ []) ≡ None }
-    ensures each { united (Known kind.UInt32 ∷ Free (pos 10000000000000000000) ∷ Free (pos 5000000000) ∷ []) ≡ None }
+    ensures wider { united (Known value_type.UInt8 ∷ Free (pos 300) ∷ []) ≡ Some value_type.Int32 }
+    ensures none { united (Known value_type.UInt64 ∷ Free (negsuc 0) ∷ []) ≡ None }
+    ensures each { united (Known value_type.UInt32 ∷ Free (pos 10000000000000000000) ∷ Free (pos 5000000000) ∷ [])
+        ≡ None }
 {}

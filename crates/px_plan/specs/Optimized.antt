@@ -3,7 +3,7 @@ use Rattle.std.specs.Prelude.{◌≡◌, ℕ, List, map, Result, Ok}
 use Rattle.px_base.specs.declared.error.PlanError.{PlanError}
 use Rattle.px_expr.specs.Tree.{Tree, Trees, trees, tree_of}
 use Rattle.px_meaning.specs.Check.{Typed}
-use Rattle.px_check.specs.Held.{Held}
+use Rattle.px_check.specs.CheckedTree.{CheckedTree}
 use Rattle.px_arena.specs.declared.node.AExpr.{AExpr}
 use Rattle.px_arena.specs.declared.node.Node.{Node}
 use Rattle.px_arena.specs.Denotes.{DenoteAll}
@@ -16,8 +16,8 @@ pub record Rewritten : Type 0 where
   pub rewrites : ℕ
 
 -- the trees of checked expressions, in order
-abbrev pub held_trees : List Held → Trees
-held_trees hs = trees (map (λ (h : Held). tree_of h.tree) hs)
+abbrev pub trees_of : List CheckedTree → Trees
+trees_of hs = trees (map (λ (h : CheckedTree). tree_of h.tree) hs)
 
 abbrev pub typed_trees : List Typed → Trees
 typed_trees ts = trees (map (λ (t : Typed). t.tree) ts)

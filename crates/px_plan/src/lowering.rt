@@ -3,7 +3,7 @@ ghost use Rattle.std.specs.Prelude.{◌≡◌, IfOk, OnErr};
 ghost use Rattle.px_expr.specs.Tree.{tree_of};
 ghost use Rattle.px_arena.specs.Denotes.{Denotes, DenoteAll, IsGrown};
 ghost use Rattle.px_arena.specs.Options.{KeepsOptions, options_of};
-ghost use Rattle.px_plan.specs.Optimized.{held_trees};
+ghost use Rattle.px_plan.specs.Optimized.{trees_of};
 ghost use Rattle.px_rules.specs.Plan.{places};
 
 use px_arena::{Arena, Node, NodeList};
@@ -28,7 +28,7 @@ pub fn lower_all(
     checked: &[Checked],
 ) -> Result<NodeList, PlanError>
     ensures kept { IsGrown arena.old arena.new }
-    ensures denote { IfOk result (λ roots. DenoteAll arena.new (places roots.entries) (held_trees checked.now)) }
+    ensures denote { IfOk result (λ roots. DenoteAll arena.new (places roots.entries) (trees_of checked.now)) }
     ensures err { OnErr result (result ≡ Err PlanError.OutOfMemory) }
 {
     let mut roots = List::new(alloc);

@@ -7,7 +7,7 @@ ghost use Rattle.px_meaning.specs.Rewrites.{IsRewrite};
 ghost use Rattle.px_meaning.specs.Rewriting.{Pairwise, AllReach, AreNormal, Moves};
 ghost use Rattle.px_meaning.specs.Weight.{weights};
 ghost use Rattle.px_arena.specs.Runs.{IsRewritten};
-ghost use Rattle.px_plan.specs.Optimized.{held_trees, typed_trees, RootsDenote, FromChecked};
+ghost use Rattle.px_plan.specs.Optimized.{trees_of, typed_trees, RootsDenote, FromChecked};
 ghost use Rattle.px_rules.specs.Plan.{AreChecked, MeansTheSame, places};
 
 use crate::lowering::lower_all;
@@ -71,11 +71,14 @@ fn rewrite_all<L: Ledger>(
     checked: &[Checked],
     steps: &mut Steps<L>,
 ) -> Result<Optimized, PlanError>
-    requires { AreChecked (⟦<PlanContext<'static> as Plan>⟧.catalog plan.now) (held_trees checked.now) }
+    requires { AreChecked (⟦<PlanContext<'static> as Plan>⟧.catalog plan.now) (trees_of checked.now) }
     ensures ticks { steps.old ≤ steps.new }
-    ensures bound { steps.new ≤ steps.old + weights (held_trees checked.now) }
-    ensures rewritten { IfOk result (λ o. IsRewritten (IsRewrite (⟦<PlanContext<'static> as Plan>⟧.catalog plan.now) plan.now.context) o.arena (places o.roots) (held_trees checked.now) (steps.new - steps.old)) }
-    ensures normal { IfOk result (λ o. (us : Trees) → RootsDenote o us → AreNormal (IsRewrite (⟦<PlanContext<'static> as Plan>⟧.catalog plan.now) plan.now.context) us) }
+    ensures bound { steps.new ≤ steps.old + weights (trees_of checked.now) }
+    ensures rewritten { IfOk result (λ o. IsRewritten
+        (IsRewrite (⟦<PlanContext<'static> as Plan>⟧.catalog plan.now) plan.now.context) o.arena (places o.roots)
+        (trees_of checked.now) (steps.new - steps.old)) }
+    ensures normal { IfOk result (λ o. (us : Trees) → RootsDenote o us
+        → AreNormal (IsRewrite (⟦<PlanContext<'static> as Plan>⟧.catalog plan.now) plan.now.context) us) }
     ensures count { IfOk result (λ o. o.rewrites ≡ min (steps.new - steps.old) (2 ^ 64 - 1)) }
     ensures err { OnErr result (result ≡ Err PlanError.OutOfMemory) }
 {
@@ -100,7 +103,9 @@ pub fn optimize<L: Ledger>(
     kernels: &KernelList,
     steps: &mut Steps<L>,
 ) -> Result<Optimized, PlanError>
-    ensures checked { OnOk result (IsOk (check.check_list (catalog_of schema.now (⟦<KernelList as Kernels>⟧.definitions kernels.now)) context (map tree_of exprs.now))) }
+    ensures checked { OnOk result (IsOk (check.check_list
+        (catalog_of schema.now (⟦<KernelList as Kernels>⟧.definitions kernels.now)) context
+        (map tree_of exprs.now))) }
     ensures denote { IfOk result (λ o. (us : Trees) × RootsDenote o us) }
     ensures moves { let catalog = catalog_of schema.now (⟦<KernelList as Kernels>⟧.definitions kernels.now) in
         let checked = check.check_list catalog context (map tree_of exprs.now) in

@@ -1,8 +1,7 @@
 ghost use Rattle.std.specs.Prelude.{◌≡◌, ◌<◌};
-ghost use Rattle.px_expr.specs.declared.context.Context.TheVariants.{Filter};
 ghost use Rattle.px_types.specs.declared.value_type.ValueType.TheVariants.{Boolean};
 ghost use Rattle.px_expr.specs.Tree.{tree_of};
-ghost use Rattle.px_meaning.specs.Check.{HasKind};
+ghost use Rattle.px_meaning.specs.Check.{HasType};
 ghost use Rattle.px_rules.specs.Plan.{AreCheckedAt, places};
 
 use crate::{
@@ -12,24 +11,14 @@ use crate::{
 use px_arena::AExpr;
 use px_check::{Checked, check_list};
 use px_expr::{Expr, Plan};
-use px_texts::{function_name, read_text, write_cast, write_literal, write_operator, write_word};
-use px_types::{
-    DataType, Field, FieldList, List, Operator, PlanError, Schema, SmallStr, Steps, ValueType,
+use px_texts::{
+    fields_of, function_name, read_text, write_cast, write_literal, write_operator, write_word,
 };
+use px_types::{Operator, PlanError, Schema, Steps, ValueType};
 use std::alloc::Global;
 use std::marker::Brand;
 use std::sync::ledger::{Blank, Ledger};
 use std::test::Fail;
-
-fn add(
-    alloc: Global,
-    fields: &mut FieldList,
-    name: &str,
-    dtype: DataType,
-) -> Result<(), PlanError> {
-    let name = SmallStr::new(alloc, name)?;
-    fields.try_push(Field::new(name, dtype))
-}
 
 const FIELDS: &[(&str, ValueType)] = &[
     ("a", ValueType::Int64),
@@ -41,10 +30,7 @@ const FIELDS: &[(&str, ValueType)] = &[
 ];
 
 fn schema(alloc: Global) -> Result<Schema, PlanError> {
-    let mut fields = List::new(alloc);
-    for field in FIELDS {
-        add(alloc, &mut fields, field.0, field.1.dtype())?;
-    }
+    let fields = fields_of(alloc, FIELDS)?;
     Schema::from_fields(alloc, fields.as_slice())
 }
 
@@ -165,6 +151,7 @@ const FOLDED: &[(&str, &str)] = &[
     ("true false ||", "true, 1"),
     ("true false ^", "true, 1"),
     ("true not", "false, 1"),
+    ("false not", "true, 1"),
     ("1:Int8 2:Int8 + 3:Int8 +", "6:Int8, 2"),
 ];
 
@@ -185,6 +172,8 @@ const SIMPLIFIED: &[(&str, &str)] = &[
     ("p q && not", "p not q not |, 1"),
     ("p q | not", "p not q not &, 1"),
     ("p q || not", "p not q not &, 1"),
+    ("c d & not", "c not d not |, 1"),
+    ("c d | not", "c not d not &, 1"),
     ("p not not", "p, 1"),
     ("a is_null not", "a is_not_null, 1"),
     ("a is_not_null not", "a is_null, 1"),
@@ -222,19 +211,69 @@ const KEPT: &[(&str, &str)] = &[
     ("p true &&", "p true &&, 0"),
     ("p false ||", "p false ||, 0"),
     ("p true ^", "p true ^, 0"),
+    (
+        "s:Boolean(false,true) false &",
+        "s:Boolean(false,true) false &, 0",
+    ),
+    (
+        "false s:Boolean(false,true) &",
+        "false s:Boolean(false,true) &, 0",
+    ),
+    (
+        "s:Boolean(false,true) true |",
+        "s:Boolean(false,true) true |, 0",
+    ),
+    (
+        "true s:Boolean(false,true) |",
+        "true s:Boolean(false,true) |, 0",
+    ),
     ("c negate", "c negate, 0"),
+    ("n:Int8(1,2) negate", "n:Int8(1,2) negate, 0"),
     ("c 2:Int8 +", "c 2:Int8 +, 0"),
+    ("1:Int8 n:Int8(1,2) +", "1:Int8 n:Int8(1,2) +, 0"),
+    (
+        "1:Int8 2147483648 *",
+        "1:Int8 as_Int64 2147483648:Int64 *, 0",
+    ),
+    ("c 2:Int8 /", "c 2:Int8 /, 0"),
     ("7:Int8 0:Int8 /", "7:Int8 0:Int8 /, 0"),
     ("7:Int8 0:Int8 //", "7:Int8 0:Int8 //, 0"),
     ("7:Int8 0:Int8 %", "7:Int8 0:Int8 %, 0"),
+    ("1:Int8 c <", "1:Int8 c <, 0"),
+    ("null null ==", "null null ==, 0"),
+    (
+        "s:Boolean(false,true) true ==",
+        "s:Boolean(false,true) true ==, 0",
+    ),
+    ("6:Int8 3:Int8 &", "6:Int8 3:Int8 &, 0"),
+    (
+        "s:Boolean(false,true) true ^",
+        "s:Boolean(false,true) true ^, 0",
+    ),
+    ("p q & .k not", "p q & . k not, 0"),
+    ("p q | .k not", "p q | . k not, 0"),
     ("p q ^ not", "p q ^ not, 0"),
     ("a b eq_missing not", "a b eq_missing not, 0"),
     ("a b neq_missing not", "a b neq_missing not, 0"),
+    ("c not negate", "c not negate, 0"),
+    ("p not .k not", "p not . k not, 0"),
+    ("7:Int8 not", "7:Int8 not, 0"),
+    ("s:Boolean(false,true) not", "s:Boolean(false,true) not, 0"),
+    ("a not is_null", "a not is_null, 0"),
+    ("a not is_not_null", "a not is_not_null, 0"),
+    ("a b < .k not", "a b < . k not, 0"),
+    ("a b <= .k not", "a b <= . k not, 0"),
+    ("a b > .k not", "a b > . k not, 0"),
+    ("a b >= .k not", "a b >= . k not, 0"),
     ("a b * a /", "a b * a /, 0"),
     ("c 2 * d +", "c 2:Int8 * d +, 0"),
     ("c d * 2:Int8 +", "c d * 2:Int8 +, 0"),
     ("c d 2:Int8 + * d +", "c d 2:Int8 + * d +, 0"),
+    ("d c 2:Int8 * +", "d c 2:Int8 * +, 0"),
+    ("n:Int8(1,2) c d * +", "n:Int8(1,2) c d * +, 0"),
     ("c 2:Int8 + c d * -", "c 2:Int8 + c d * -, 0"),
+    ("c d * 2:Int8 -", "c d * 2:Int8 -, 0"),
+    ("c n:Int8(1,2) * d -", "c n:Int8(1,2) * d -, 0"),
 ];
 
 // No rewrite applies.
@@ -269,9 +308,11 @@ const FILTERED: &[(&str, &str)] = &[
     ("p true q & |", "p q |, 1"),
     ("false p &", "false p &, 0"),
     ("true p |", "true p |, 0"),
+    ("true p &&", "true p &&, 0"),
+    ("false p ||", "false p ||, 0"),
 ];
 
-// In a filter a truth value is dropped on the left . well.
+// In a filter a Boolean is dropped on the left as well.
 #[test]
 fn masks_have_no_name_to_keep(rt: HostRuntime) -> Result<(), Fail> {
     assert_eq!(rt;
@@ -289,7 +330,8 @@ fn rewritten<R: OptimizationRule, L: Ledger>(
     roots: &NodeList,
     blank: Blank,
 ) -> Result<String, PlanError>
-    requires checked { AreCheckedAt (⟦<PlanContext<'static> as Plan>⟧.catalog plan.now) arena.old (places roots.now.entries) }
+    requires checked { AreCheckedAt (⟦<PlanContext<'static> as Plan>⟧.catalog plan.now) arena.old
+        (places roots.now.entries) }
     requires name { blank.name ≡ L.name }
     requires parts { blank.parts ≡ L.parts }
     requires one { 0 < L.parts }
@@ -299,7 +341,7 @@ fn rewritten<R: OptimizationRule, L: Ledger>(
     read_back(alloc, arena, roots.as_slice(), rewrites)
 }
 
-// The mask twice . a root, at one place.
+// The mask twice as a root, at one place.
 fn twice<R: OptimizationRule, L: Ledger>(
     alloc: Global,
     plan: &PlanContext<'_>,
@@ -307,7 +349,7 @@ fn twice<R: OptimizationRule, L: Ledger>(
     mask: &Checked,
     blank: Blank,
 ) -> Result<String, PlanError>
-    requires mask { HasKind (⟦<PlanContext<'static> as Plan>⟧.catalog plan.now) (tree_of mask.now.tree) Boolean }
+    requires mask { HasType (⟦<PlanContext<'static> as Plan>⟧.catalog plan.now) (tree_of mask.now.tree) Boolean }
     requires name { blank.name ≡ L.name }
     requires parts { blank.parts ≡ L.parts }
     requires one { 0 < L.parts }
@@ -327,7 +369,7 @@ fn beside_itself<L: Ledger>(
     mask: &Checked,
     blank: Blank,
 ) -> Result<String, PlanError>
-    requires mask { HasKind (⟦<PlanContext<'static> as Plan>⟧.catalog plan.now) (tree_of mask.now.tree) Boolean }
+    requires mask { HasType (⟦<PlanContext<'static> as Plan>⟧.catalog plan.now) (tree_of mask.now.tree) Boolean }
     requires name { blank.name ≡ L.name }
     requires parts { blank.parts ≡ L.parts }
     requires one { 0 < L.parts }
@@ -357,7 +399,7 @@ fn twice_by_boolean_rule(
     plan: &PlanContext<'_>,
     mask: &Checked,
 ) -> Result<String, PlanError>
-    requires { HasKind (⟦<PlanContext<'static> as Plan>⟧.catalog plan.now) (tree_of mask.now.tree) Boolean }
+    requires { HasType (⟦<PlanContext<'static> as Plan>⟧.catalog plan.now) (tree_of mask.now.tree) Boolean }
 {
     let mut rule = SimplifyBooleanRule {};
     twice::<SimplifyBooleanRule, Brand>(alloc, plan, &mut rule, mask, Blank::new(1))
@@ -368,12 +410,13 @@ fn shared_mask(
     plan: &PlanContext<'_>,
     exprs: &[Expr],
     shared: Shared,
-) -> Result<String, PlanError>
-    requires { plan.now.context ≡ Filter }
-{
+) -> Result<String, PlanError> {
     let checked = check_list(alloc, plan, exprs)?;
     let Some(mask) = checked.get(0) else {
         return Err(PlanError::OutOfBounds);
+    };
+    let ValueType::Boolean = mask.value_type() else {
+        return Err(PlanError::InvalidOperation);
     };
     match shared {
         Shared::TwiceByAllRules => {
@@ -384,25 +427,31 @@ fn shared_mask(
     }
 }
 
-fn shared_answer(alloc: Global, text: &str, shared: Shared) -> Result<String, PlanError> {
+fn shared_answer(
+    alloc: Global,
+    context: Context,
+    text: &str,
+    shared: Shared,
+) -> Result<String, PlanError> {
     let schema = schema(alloc)?;
     let exprs = read_text(alloc, text)?;
     let kernels = KernelList::new(alloc);
     let plan = PlanContext {
         schema: &schema,
         kernels: &kernels,
-        context: Context::Filter,
+        context,
     };
     shared_mask(alloc, &plan, exprs.as_slice(), shared)
 }
 
 fn first_wrong_shared(
     alloc: Global,
-    place: Shared,
+    context: Context,
+    shared: Shared,
     cases: &[(&str, &str)],
 ) -> Result<String, PlanError> {
     for case in cases {
-        let answer = shared_answer(alloc, case.0, place)?;
+        let answer = shared_answer(alloc, context, case.0, shared)?;
         if answer.as_str() != case.1 {
             return Ok(answer);
         }
@@ -416,6 +465,7 @@ fn shared_roots_are_rewritten_once(rt: HostRuntime) -> Result<(), Fail> {
     assert_eq!(rt;
         first_wrong_shared(
             rt.alloc(),
+            Context::Filter,
             Shared::TwiceByAllRules,
             &[("p not not", "p p, 1")],
         )?
@@ -431,6 +481,7 @@ fn shared_inputs_are_rewritten_once(rt: HostRuntime) -> Result<(), Fail> {
     assert_eq!(rt;
         first_wrong_shared(
             rt.alloc(),
+            Context::Filter,
             Shared::BesideItself,
             &[("p not not", "p p &, 1")],
         )?
@@ -446,7 +497,19 @@ const BOOLEAN: &[(&str, &str)] = &[
     ("false false &", "false false, 1"),
     ("false true |", "true true, 1"),
     ("true false |", "true true, 1"),
+    ("true true |", "true true, 1"),
     ("p false &", "p false & p false &, 0"),
+    ("false p &", "false p & false p &, 0"),
+    ("p true |", "p true | p true |, 0"),
+    ("true p |", "true p | true p |, 0"),
+    (
+        "s:Boolean(false,true) false &",
+        "s:Boolean(false,true) false & s:Boolean(false,true) false &, 0",
+    ),
+    (
+        "false s:Boolean(false,true) &",
+        "false s:Boolean(false,true) & false s:Boolean(false,true) &, 0",
+    ),
     ("p not not", "p not not p not not, 0"),
 ];
 
@@ -454,7 +517,38 @@ const BOOLEAN: &[(&str, &str)] = &[
 #[test]
 fn the_boolean_rule_rewrites_alone(rt: HostRuntime) -> Result<(), Fail> {
     assert_eq!(rt;
-        first_wrong_shared(rt.alloc(), Shared::TwiceByBooleanRule, BOOLEAN)?.as_str(),
+        first_wrong_shared(
+            rt.alloc(),
+            Context::Select,
+            Shared::TwiceByBooleanRule,
+            BOOLEAN,
+        )?
+        .as_str(),
+        ""
+    );
+    Ok(())
+}
+
+const BOOLEAN_MASKS: &[(&str, &str)] = &[
+    ("true p &", "p p, 1"),
+    ("false p |", "p p, 1"),
+    ("true true |", "true true, 1"),
+    ("true true &", "true true, 1"),
+    ("p false &", "p false & p false &, 0"),
+    ("p not not", "p not not p not not, 0"),
+];
+
+// In a filter it drops a Boolean on the left as well.
+#[test]
+fn the_boolean_rule_rewrites_masks(rt: HostRuntime) -> Result<(), Fail> {
+    assert_eq!(rt;
+        first_wrong_shared(
+            rt.alloc(),
+            Context::Filter,
+            Shared::TwiceByBooleanRule,
+            BOOLEAN_MASKS,
+        )?
+        .as_str(),
         ""
     );
     Ok(())

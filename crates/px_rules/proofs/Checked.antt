@@ -9,7 +9,7 @@ use Rattle.px_meaning.specs.Rewriting.{Reaches as LeadsTo, Pairwise, AllReach}
 use Rattle.px_expr.specs.Plan.{Catalog}
 use Rattle.px_meaning.specs.Weight.{weight, weights}
 use Rattle.px_meaning.proofs.Steps.{Reaches-keeps}
-use Rattle.px_meaning.proofs.Typing.{Has, HaveAll, has, have_none, have_more, Has-HasKind, HasKind-Has}
+use Rattle.px_meaning.proofs.Typing.{Has, HaveAll, has, have_none, have_more, Has-HasType, HasType-Has}
 use Rattle.px_arena.specs.declared.node.AExpr.{AExpr}
 use Rattle.px_arena.specs.Denotes.{Denotes, DenoteAll, IsIn, first, later}
 use Rattle.px_arena.proofs.Weights.{weights-more}
@@ -17,11 +17,11 @@ use Rattle.px_rules.specs.Plan.{AreChecked, MeansTheSame}
 
 all_checked : (c : Catalog) (us : Trees) (ks : List ValueType) → HaveAll c us ks → AreChecked c us
 all_checked c _ _ have_none = tt
-all_checked c _ _ (have_more {u} {us} {k} {ks} h all) = ((k, Has-HasKind c u k h), all_checked c us ks all)
+all_checked c _ _ (have_more {u} {us} {k} {ks} h all) = ((k, Has-HasType c u k h), all_checked c us ks all)
 
 -- the inputs of a checked tree are checked
 pub inputs_checked : (c : Catalog) (n : Root) (us : Trees) → IsChecked c (tree n us) → AreChecked c us
-inputs_checked c n us (k, h) = go (HasKind-Has c (tree n us) k h)
+inputs_checked c n us (k, h) = go (HasType-Has c (tree n us) k h)
   where
     go : Has c (tree n us) k → AreChecked c us
     go (has {ks} free all signed) = all_checked c us ks all
@@ -38,7 +38,7 @@ input_checked c items (n ∷ ns) (more u us) m (d, ds) (ok, cs) (later i) =
 
 module _ (c : Catalog) (context : Context) (Rewrite : Tree → Tree → Type 0) (keeps : KeepsMeaning c context Rewrite) where
   pub leads_checked : (t u : Tree) → LeadsTo Rewrite t u → IsChecked c t → IsChecked c u
-  leads_checked t u lead (k, h) = (k, (Reaches-keeps c context Rewrite keeps t u lead).kind k h)
+  leads_checked t u lead (k, h) = (k, (Reaches-keeps c context Rewrite keeps t u lead).value_type k h)
 
   pub all_reach_checked : (us vs : Trees) → AllReach Rewrite us vs → AreChecked c us → AreChecked c vs
   all_reach_checked none none a cs = tt
@@ -49,7 +49,7 @@ module _ (c : Catalog) (context : Context) (Rewrite : Tree → Tree → Type 0) 
   pub reached_means : (t u : Tree) → LeadsTo Rewrite t u → MeansTheSame c context t u
   reached_means t u lead =
       let kept = Reaches-keeps c context Rewrite keeps t u lead in
-      record { kind = kept.kind; rows = kept.rows; name = kept.name; faults = kept.faults }
+      record { value_type = kept.value_type; rows = kept.rows; name = kept.name; faults = kept.faults }
 
   pub all_reached_mean : (us vs : Trees) → AllReach Rewrite us vs → Pairwise (MeansTheSame c context) us vs
   all_reached_mean none none a = tt

@@ -119,10 +119,10 @@ module _ (c : Catalog) (context : Context) where
       let sv : l.v ≡ v = same_Some l.v v (sym h ∙ is2) in
       l.negates_to (rw (sv) e)
 
-  pub offer_opposite :
+  pub offer_complement :
       (items : List AExpr) (n : ℕ) (x y : AExpr) (a : Node) (v r : LiteralValue) → IsCheckedAt c items n → slice_get items n ≡ Some x → negate_of x ≡ Some a → slice_get items a.0 ≡ Some y → literal_of y ≡ Some v →
       negated_literal v ≡ Some r → Offers NegateRewrite items items n (Some (ir.Literal r))
-  offer_opposite items n x y a v r (t, d, ok) at is at2 is2 e =
+  offer_complement items n x y a v r (t, d, ok) at is at2 is2 e =
       let (u, whole, du) = reads_negate items n x a t d at is in
       let under : u ≡ literal v = reads_literal items a.0 y v u du at2 is2 in
       let same : t ≡ call function.Negate (literal v) = whole ∙ ap (call function.Negate) under in

@@ -4,16 +4,16 @@ use Rattle.std.specs.Ordering.{int_cmp}
 use Rattle.std.proofs.lemmas.Bool.Decides.{nat_tests}
 use Rattle.std.proofs.lemmas.Option.{same_Some}
 use Rattle.std.specs.declared.cmp.Ordering.{Ordering}
-use Rattle.px_types.specs.Arithmetic.{arith_row, lift_nonzero, floor_quotient, floor_rest, is_zero}
-use Rattle.px_types.specs.Comparisons.{IsComparison}
+use Rattle.px_semantics.specs.Arithmetic.{arith_row, lift_nonzero, floor_quotient, floor_remainder, is_zero}
+use Rattle.px_semantics.specs.Comparisons.{IsComparison}
 use Rattle.px_types.specs.Integers.{into}
-use Rattle.px_types.specs.Rows.{Datum, Truth, Integer, Row}
+use Rattle.px_semantics.specs.Rows.{Datum, Truth, Integer, Row}
 use Rattle.px_types.specs.declared.function.FunctionExpr.TheVariants as function
 use Rattle.px_types.specs.declared.operator.Operator.{Operator}
 use Rattle.px_types.specs.declared.operator.Operator.TheVariants as op
 use Rattle.px_types.specs.declared.value_type.ValueType.{ValueType}
-use Rattle.px_types.specs.declared.value_type.ValueType.TheVariants as kind
-use Rattle.px_operations.specs.Quotients.{quotient_of, rest_of}
+use Rattle.px_types.specs.declared.value_type.ValueType.TheVariants as value_type
+use Rattle.px_integers.specs.Quotients.{quotient_of, remainder_of}
 use Rattle.px_expr.specs.declared.context.Context.{Context}
 use Rattle.px_expr.specs.declared.literal.LiteralValue.{LiteralValue}
 use Rattle.px_expr.specs.declared.literal.LiteralValue.TheVariants as lit
@@ -30,15 +30,15 @@ use Rattle.px_rules.proofs.Parts.{RewriteIn}
 
 -- the literals that have a type and a value
 data IsScalarLiteral : LiteralValue → ValueType → Datum → Type 0 where
-  boolean_ : {t : Bool} → IsScalarLiteral (lit.Boolean t) kind.Boolean (Truth t)
-  u8 : {n : ℕ} → IsScalarLiteral (lit.UInt8 n) kind.UInt8 (Integer (pos n))
-  u16 : {n : ℕ} → IsScalarLiteral (lit.UInt16 n) kind.UInt16 (Integer (pos n))
-  u32 : {n : ℕ} → IsScalarLiteral (lit.UInt32 n) kind.UInt32 (Integer (pos n))
-  u64 : {n : ℕ} → IsScalarLiteral (lit.UInt64 n) kind.UInt64 (Integer (pos n))
-  i8 : {z : ℤ} → IsScalarLiteral (lit.Int8 z) kind.Int8 (Integer z)
-  i16 : {z : ℤ} → IsScalarLiteral (lit.Int16 z) kind.Int16 (Integer z)
-  i32 : {z : ℤ} → IsScalarLiteral (lit.Int32 z) kind.Int32 (Integer z)
-  i64 : {z : ℤ} → IsScalarLiteral (lit.Int64 z) kind.Int64 (Integer z)
+  boolean_ : {t : Bool} → IsScalarLiteral (lit.Boolean t) value_type.Boolean (Truth t)
+  u8 : {n : ℕ} → IsScalarLiteral (lit.UInt8 n) value_type.UInt8 (Integer (pos n))
+  u16 : {n : ℕ} → IsScalarLiteral (lit.UInt16 n) value_type.UInt16 (Integer (pos n))
+  u32 : {n : ℕ} → IsScalarLiteral (lit.UInt32 n) value_type.UInt32 (Integer (pos n))
+  u64 : {n : ℕ} → IsScalarLiteral (lit.UInt64 n) value_type.UInt64 (Integer (pos n))
+  i8 : {z : ℤ} → IsScalarLiteral (lit.Int8 z) value_type.Int8 (Integer z)
+  i16 : {z : ℤ} → IsScalarLiteral (lit.Int16 z) value_type.Int16 (Integer z)
+  i32 : {z : ℤ} → IsScalarLiteral (lit.Int32 z) value_type.Int32 (Integer z)
+  i64 : {z : ℤ} → IsScalarLiteral (lit.Int64 z) value_type.Int64 (Integer z)
 
 moved : (v : LiteralValue) (k l : ValueType) (d e : Datum) → ◌≡◌ {A = Option (ValueType × Datum)} (Some (l, e)) (Some (k, d)) → IsScalarLiteral v l e → IsScalarLiteral v k d
 moved v k l d e same is =
@@ -46,15 +46,15 @@ moved v k l d e same is =
     subst (λ (p : ValueType × Datum). IsScalarLiteral v p.0 p.1) pair is
 
 scalar_literal : (v : LiteralValue) (k : ValueType) (d : Datum) → IsScalarOf v k d → IsScalarLiteral v k d
-scalar_literal (lit.Boolean t) k d e = moved (lit.Boolean t) k kind.Boolean d (Truth t) e boolean_
-scalar_literal (lit.UInt8 n) k d e = moved (lit.UInt8 n) k kind.UInt8 d (Integer (pos n)) e u8
-scalar_literal (lit.UInt16 n) k d e = moved (lit.UInt16 n) k kind.UInt16 d (Integer (pos n)) e u16
-scalar_literal (lit.UInt32 n) k d e = moved (lit.UInt32 n) k kind.UInt32 d (Integer (pos n)) e u32
-scalar_literal (lit.UInt64 n) k d e = moved (lit.UInt64 n) k kind.UInt64 d (Integer (pos n)) e u64
-scalar_literal (lit.Int8 z) k d e = moved (lit.Int8 z) k kind.Int8 d (Integer z) e i8
-scalar_literal (lit.Int16 z) k d e = moved (lit.Int16 z) k kind.Int16 d (Integer z) e i16
-scalar_literal (lit.Int32 z) k d e = moved (lit.Int32 z) k kind.Int32 d (Integer z) e i32
-scalar_literal (lit.Int64 z) k d e = moved (lit.Int64 z) k kind.Int64 d (Integer z) e i64
+scalar_literal (lit.Boolean t) k d e = moved (lit.Boolean t) k value_type.Boolean d (Truth t) e boolean_
+scalar_literal (lit.UInt8 n) k d e = moved (lit.UInt8 n) k value_type.UInt8 d (Integer (pos n)) e u8
+scalar_literal (lit.UInt16 n) k d e = moved (lit.UInt16 n) k value_type.UInt16 d (Integer (pos n)) e u16
+scalar_literal (lit.UInt32 n) k d e = moved (lit.UInt32 n) k value_type.UInt32 d (Integer (pos n)) e u32
+scalar_literal (lit.UInt64 n) k d e = moved (lit.UInt64 n) k value_type.UInt64 d (Integer (pos n)) e u64
+scalar_literal (lit.Int8 z) k d e = moved (lit.Int8 z) k value_type.Int8 d (Integer z) e i8
+scalar_literal (lit.Int16 z) k d e = moved (lit.Int16 z) k value_type.Int16 d (Integer z) e i16
+scalar_literal (lit.Int32 z) k d e = moved (lit.Int32 z) k value_type.Int32 d (Integer z) e i32
+scalar_literal (lit.Int64 z) k d e = moved (lit.Int64 z) k value_type.Int64 d (Integer z) e i64
 scalar_literal _ k d e = cc
 
 abbrev folded_data : Operator → ValueType → Datum → Datum → Option LiteralValue
@@ -102,7 +102,7 @@ no_comparison _ i there back k r e = absurd i
 division_folds : (o : Operator) (k : ValueType) (x y : ℤ) → IsDivision o → y ≢ pos 0 → folded_numbers o k x y ≡ None → ⊥
 division_folds op.Divide k x y i n e = divided op.Divide k x y (quotient_of k x y) i refl n e
 division_folds op.FloorDivide k x y i n e = divided op.FloorDivide k x y (quotient_of k x y) i refl n e
-division_folds op.Modulus k x y i n e = divided op.Modulus k x y (rest_of x y) i refl n e
+division_folds op.Modulus k x y i n e = divided op.Modulus k x y (remainder_of x y) i refl n e
 division_folds _ k x y i n e = absurd i
 
 comparison_numbers : (o : Operator) (k : ValueType) (x y : ℤ) → IsComparison o → folded_numbers o k x y ≡ None → ⊥
@@ -129,14 +129,14 @@ comparison_booleans _ a b i e = absurd i
 
 comparison_folds : (o : Operator) (v w : LiteralValue) (k : ValueType) (d e : Datum) → IsComparison o → IsScalarLiteral v k d → IsScalarLiteral w k e → folded_data o k d e ≡ None → ⊥
 comparison_folds o _ _ _ _ _ i (boolean_ {t = a}) (boolean_ {t = b}) e = comparison_booleans o a b i e
-comparison_folds o _ _ _ _ _ i (u8 {n = a}) (u8 {n = b}) e = comparison_numbers o kind.UInt8 (pos a) (pos b) i e
-comparison_folds o _ _ _ _ _ i (u16 {n = a}) (u16 {n = b}) e = comparison_numbers o kind.UInt16 (pos a) (pos b) i e
-comparison_folds o _ _ _ _ _ i (u32 {n = a}) (u32 {n = b}) e = comparison_numbers o kind.UInt32 (pos a) (pos b) i e
-comparison_folds o _ _ _ _ _ i (u64 {n = a}) (u64 {n = b}) e = comparison_numbers o kind.UInt64 (pos a) (pos b) i e
-comparison_folds o _ _ _ _ _ i (i8 {z = a}) (i8 {z = b}) e = comparison_numbers o kind.Int8 a b i e
-comparison_folds o _ _ _ _ _ i (i16 {z = a}) (i16 {z = b}) e = comparison_numbers o kind.Int16 a b i e
-comparison_folds o _ _ _ _ _ i (i32 {z = a}) (i32 {z = b}) e = comparison_numbers o kind.Int32 a b i e
-comparison_folds o _ _ _ _ _ i (i64 {z = a}) (i64 {z = b}) e = comparison_numbers o kind.Int64 a b i e
+comparison_folds o _ _ _ _ _ i (u8 {n = a}) (u8 {n = b}) e = comparison_numbers o value_type.UInt8 (pos a) (pos b) i e
+comparison_folds o _ _ _ _ _ i (u16 {n = a}) (u16 {n = b}) e = comparison_numbers o value_type.UInt16 (pos a) (pos b) i e
+comparison_folds o _ _ _ _ _ i (u32 {n = a}) (u32 {n = b}) e = comparison_numbers o value_type.UInt32 (pos a) (pos b) i e
+comparison_folds o _ _ _ _ _ i (u64 {n = a}) (u64 {n = b}) e = comparison_numbers o value_type.UInt64 (pos a) (pos b) i e
+comparison_folds o _ _ _ _ _ i (i8 {z = a}) (i8 {z = b}) e = comparison_numbers o value_type.Int8 a b i e
+comparison_folds o _ _ _ _ _ i (i16 {z = a}) (i16 {z = b}) e = comparison_numbers o value_type.Int16 a b i e
+comparison_folds o _ _ _ _ _ i (i32 {z = a}) (i32 {z = b}) e = comparison_numbers o value_type.Int32 a b i e
+comparison_folds o _ _ _ _ _ i (i64 {z = a}) (i64 {z = b}) e = comparison_numbers o value_type.Int64 a b i e
 
 logic_folds : (o : Operator) (a b : Bool) → IsLogical o → option_map lit.Boolean (folded_booleans o a b) ≡ None → ⊥
 logic_folds op.And a b i e = cc
@@ -199,8 +199,8 @@ module _ (c : Catalog) (context : Context) where
   quotient_row : (k : ValueType) (x y : ℤ) → is_zero y ≡ false → lift_nonzero (λ a b. into k (floor_quotient a b)) (Some (Integer x)) (Some (Integer y)) ≡ Some (Integer (quotient_of k x y))
   quotient_row k x y e = rw (e) refl
 
-  rest_row : (k : ValueType) (x y : ℤ) → is_zero y ≡ false → lift_nonzero floor_rest (Some (Integer x)) (Some (Integer y)) ≡ Some (Integer (rest_of x y))
-  rest_row k x y e = rw (e) refl
+  remainder_row : (k : ValueType) (x y : ℤ) → is_zero y ≡ false → lift_nonzero floor_remainder (Some (Integer x)) (Some (Integer y)) ≡ Some (Integer (remainder_of x y))
+  remainder_row k x y e = rw (e) refl
 
   no_zero : (y : ℤ) → is_zero y ≡ false → y ≢ pos 0
   no_zero y e h = let z : is_zero y ≡ true = ap is_zero h in cc
@@ -227,7 +227,7 @@ module _ (c : Catalog) (context : Context) where
   numbers_rewrite op.Multiply v w r k x y s t e = to op.Multiply v w r _ e (record { by = named.C10; rewrites = C10 {o = op.Multiply} {v = v} {w = w} {k = k} {x = x} {y = y} tt s t; of_group = refl })
   numbers_rewrite op.Divide v w r k x y s t e = division_rewrite op.Divide v w r k x y (quotient_of k x y) s t tt refl e (is_zero y) refl (quotient_row k x y)
   numbers_rewrite op.FloorDivide v w r k x y s t e = division_rewrite op.FloorDivide v w r k x y (quotient_of k x y) s t tt refl e (is_zero y) refl (quotient_row k x y)
-  numbers_rewrite op.Modulus v w r k x y s t e = division_rewrite op.Modulus v w r k x y (rest_of x y) s t tt refl e (is_zero y) refl (rest_row k x y)
+  numbers_rewrite op.Modulus v w r k x y s t e = division_rewrite op.Modulus v w r k x y (remainder_of x y) s t tt refl e (is_zero y) refl (remainder_row k x y)
   numbers_rewrite op.Eq v w r k x y s t e = to op.Eq v w r _ e (record { by = named.C12; rewrites = C12 {o = op.Eq} {v = v} {w = w} {k = k} {d = Integer x} {e = Integer y} tt s t; of_group = refl })
   numbers_rewrite op.NotEq v w r k x y s t e = to op.NotEq v w r _ e (record { by = named.C12; rewrites = C12 {o = op.NotEq} {v = v} {w = w} {k = k} {d = Integer x} {e = Integer y} tt s t; of_group = refl })
   numbers_rewrite op.Lt v w r k x y s t e = to op.Lt v w r _ e (record { by = named.C12; rewrites = C12 {o = op.Lt} {v = v} {w = w} {k = k} {d = Integer x} {e = Integer y} tt s t; of_group = refl })
@@ -240,14 +240,14 @@ module _ (c : Catalog) (context : Context) where
 
   booleans_rewrite :
       (o : Operator) (a b : Bool) (r : LiteralValue) → option_map lit.Boolean (folded_booleans o a b) ≡ Some r → RewriteIn literal_folds c context (binary o (truth a) (truth b)) (literal r)
-  booleans_rewrite op.Eq a b r e = to op.Eq (lit.Boolean a) (lit.Boolean b) r _ e (record { by = named.C12; rewrites = C12 {o = op.Eq} {v = lit.Boolean a} {w = lit.Boolean b} {k = kind.Boolean} {d = Truth a} {e = Truth b} tt refl refl; of_group = refl })
-  booleans_rewrite op.NotEq a b r e = to op.NotEq (lit.Boolean a) (lit.Boolean b) r _ e (record { by = named.C12; rewrites = C12 {o = op.NotEq} {v = lit.Boolean a} {w = lit.Boolean b} {k = kind.Boolean} {d = Truth a} {e = Truth b} tt refl refl; of_group = refl })
-  booleans_rewrite op.Lt a b r e = to op.Lt (lit.Boolean a) (lit.Boolean b) r _ e (record { by = named.C12; rewrites = C12 {o = op.Lt} {v = lit.Boolean a} {w = lit.Boolean b} {k = kind.Boolean} {d = Truth a} {e = Truth b} tt refl refl; of_group = refl })
-  booleans_rewrite op.LtEq a b r e = to op.LtEq (lit.Boolean a) (lit.Boolean b) r _ e (record { by = named.C12; rewrites = C12 {o = op.LtEq} {v = lit.Boolean a} {w = lit.Boolean b} {k = kind.Boolean} {d = Truth a} {e = Truth b} tt refl refl; of_group = refl })
-  booleans_rewrite op.Gt a b r e = to op.Gt (lit.Boolean a) (lit.Boolean b) r _ e (record { by = named.C12; rewrites = C12 {o = op.Gt} {v = lit.Boolean a} {w = lit.Boolean b} {k = kind.Boolean} {d = Truth a} {e = Truth b} tt refl refl; of_group = refl })
-  booleans_rewrite op.GtEq a b r e = to op.GtEq (lit.Boolean a) (lit.Boolean b) r _ e (record { by = named.C12; rewrites = C12 {o = op.GtEq} {v = lit.Boolean a} {w = lit.Boolean b} {k = kind.Boolean} {d = Truth a} {e = Truth b} tt refl refl; of_group = refl })
-  booleans_rewrite op.EqValidity a b r e = to op.EqValidity (lit.Boolean a) (lit.Boolean b) r _ e (record { by = named.C12; rewrites = C12 {o = op.EqValidity} {v = lit.Boolean a} {w = lit.Boolean b} {k = kind.Boolean} {d = Truth a} {e = Truth b} tt refl refl; of_group = refl })
-  booleans_rewrite op.NotEqValidity a b r e = to op.NotEqValidity (lit.Boolean a) (lit.Boolean b) r _ e (record { by = named.C12; rewrites = C12 {o = op.NotEqValidity} {v = lit.Boolean a} {w = lit.Boolean b} {k = kind.Boolean} {d = Truth a} {e = Truth b} tt refl refl; of_group = refl })
+  booleans_rewrite op.Eq a b r e = to op.Eq (lit.Boolean a) (lit.Boolean b) r _ e (record { by = named.C12; rewrites = C12 {o = op.Eq} {v = lit.Boolean a} {w = lit.Boolean b} {k = value_type.Boolean} {d = Truth a} {e = Truth b} tt refl refl; of_group = refl })
+  booleans_rewrite op.NotEq a b r e = to op.NotEq (lit.Boolean a) (lit.Boolean b) r _ e (record { by = named.C12; rewrites = C12 {o = op.NotEq} {v = lit.Boolean a} {w = lit.Boolean b} {k = value_type.Boolean} {d = Truth a} {e = Truth b} tt refl refl; of_group = refl })
+  booleans_rewrite op.Lt a b r e = to op.Lt (lit.Boolean a) (lit.Boolean b) r _ e (record { by = named.C12; rewrites = C12 {o = op.Lt} {v = lit.Boolean a} {w = lit.Boolean b} {k = value_type.Boolean} {d = Truth a} {e = Truth b} tt refl refl; of_group = refl })
+  booleans_rewrite op.LtEq a b r e = to op.LtEq (lit.Boolean a) (lit.Boolean b) r _ e (record { by = named.C12; rewrites = C12 {o = op.LtEq} {v = lit.Boolean a} {w = lit.Boolean b} {k = value_type.Boolean} {d = Truth a} {e = Truth b} tt refl refl; of_group = refl })
+  booleans_rewrite op.Gt a b r e = to op.Gt (lit.Boolean a) (lit.Boolean b) r _ e (record { by = named.C12; rewrites = C12 {o = op.Gt} {v = lit.Boolean a} {w = lit.Boolean b} {k = value_type.Boolean} {d = Truth a} {e = Truth b} tt refl refl; of_group = refl })
+  booleans_rewrite op.GtEq a b r e = to op.GtEq (lit.Boolean a) (lit.Boolean b) r _ e (record { by = named.C12; rewrites = C12 {o = op.GtEq} {v = lit.Boolean a} {w = lit.Boolean b} {k = value_type.Boolean} {d = Truth a} {e = Truth b} tt refl refl; of_group = refl })
+  booleans_rewrite op.EqValidity a b r e = to op.EqValidity (lit.Boolean a) (lit.Boolean b) r _ e (record { by = named.C12; rewrites = C12 {o = op.EqValidity} {v = lit.Boolean a} {w = lit.Boolean b} {k = value_type.Boolean} {d = Truth a} {e = Truth b} tt refl refl; of_group = refl })
+  booleans_rewrite op.NotEqValidity a b r e = to op.NotEqValidity (lit.Boolean a) (lit.Boolean b) r _ e (record { by = named.C12; rewrites = C12 {o = op.NotEqValidity} {v = lit.Boolean a} {w = lit.Boolean b} {k = value_type.Boolean} {d = Truth a} {e = Truth b} tt refl refl; of_group = refl })
   booleans_rewrite op.And true true r e = to op.And (lit.Boolean true) (lit.Boolean true) r _ e (record { by = named.C13; rewrites = C13 {o = op.And} {s = true} {t = true} tt; of_group = refl })
   booleans_rewrite op.And true false r e = to op.And (lit.Boolean true) (lit.Boolean false) r _ e (record { by = named.C13; rewrites = C13 {o = op.And} {s = true} {t = false} tt; of_group = refl })
   booleans_rewrite op.And false true r e = to op.And (lit.Boolean false) (lit.Boolean true) r _ e (record { by = named.C13; rewrites = C13 {o = op.And} {s = false} {t = true} tt; of_group = refl })
@@ -272,24 +272,24 @@ module _ (c : Catalog) (context : Context) where
 
   pub fold_rewrite : (o : Operator) (v w r : LiteralValue) → folded_literals o v w ≡ Some r → RewriteIn literal_folds c context (binary o (literal v) (literal w)) (literal r)
   fold_rewrite o (lit.Boolean a) (lit.Boolean b) r e = booleans_rewrite o a b r e
-  fold_rewrite o (lit.UInt8 x) (lit.UInt8 y) r e = numbers_rewrite o (lit.UInt8 x) (lit.UInt8 y) r kind.UInt8 (pos x) (pos y) refl refl e
-  fold_rewrite o (lit.UInt16 x) (lit.UInt16 y) r e = numbers_rewrite o (lit.UInt16 x) (lit.UInt16 y) r kind.UInt16 (pos x) (pos y) refl refl e
-  fold_rewrite o (lit.UInt32 x) (lit.UInt32 y) r e = numbers_rewrite o (lit.UInt32 x) (lit.UInt32 y) r kind.UInt32 (pos x) (pos y) refl refl e
-  fold_rewrite o (lit.UInt64 x) (lit.UInt64 y) r e = numbers_rewrite o (lit.UInt64 x) (lit.UInt64 y) r kind.UInt64 (pos x) (pos y) refl refl e
-  fold_rewrite o (lit.Int8 x) (lit.Int8 y) r e = numbers_rewrite o (lit.Int8 x) (lit.Int8 y) r kind.Int8 x y refl refl e
-  fold_rewrite o (lit.Int16 x) (lit.Int16 y) r e = numbers_rewrite o (lit.Int16 x) (lit.Int16 y) r kind.Int16 x y refl refl e
-  fold_rewrite o (lit.Int32 x) (lit.Int32 y) r e = numbers_rewrite o (lit.Int32 x) (lit.Int32 y) r kind.Int32 x y refl refl e
-  fold_rewrite o (lit.Int64 x) (lit.Int64 y) r e = numbers_rewrite o (lit.Int64 x) (lit.Int64 y) r kind.Int64 x y refl refl e
+  fold_rewrite o (lit.UInt8 x) (lit.UInt8 y) r e = numbers_rewrite o (lit.UInt8 x) (lit.UInt8 y) r value_type.UInt8 (pos x) (pos y) refl refl e
+  fold_rewrite o (lit.UInt16 x) (lit.UInt16 y) r e = numbers_rewrite o (lit.UInt16 x) (lit.UInt16 y) r value_type.UInt16 (pos x) (pos y) refl refl e
+  fold_rewrite o (lit.UInt32 x) (lit.UInt32 y) r e = numbers_rewrite o (lit.UInt32 x) (lit.UInt32 y) r value_type.UInt32 (pos x) (pos y) refl refl e
+  fold_rewrite o (lit.UInt64 x) (lit.UInt64 y) r e = numbers_rewrite o (lit.UInt64 x) (lit.UInt64 y) r value_type.UInt64 (pos x) (pos y) refl refl e
+  fold_rewrite o (lit.Int8 x) (lit.Int8 y) r e = numbers_rewrite o (lit.Int8 x) (lit.Int8 y) r value_type.Int8 x y refl refl e
+  fold_rewrite o (lit.Int16 x) (lit.Int16 y) r e = numbers_rewrite o (lit.Int16 x) (lit.Int16 y) r value_type.Int16 x y refl refl e
+  fold_rewrite o (lit.Int32 x) (lit.Int32 y) r e = numbers_rewrite o (lit.Int32 x) (lit.Int32 y) r value_type.Int32 x y refl refl e
+  fold_rewrite o (lit.Int64 x) (lit.Int64 y) r e = numbers_rewrite o (lit.Int64 x) (lit.Int64 y) r value_type.Int64 x y refl refl e
   fold_rewrite o _ _ r e = cc
 
   signed_to : (v r s : LiteralValue) → Some s ≡ Some r → RewriteIn literal_negations c context (call function.Negate (literal v)) (literal s) → RewriteIn literal_negations c context (call function.Negate (literal v)) (literal r)
   signed_to v r s e l = subst (λ (z : LiteralValue). RewriteIn literal_negations c context (call function.Negate (literal v)) (literal z)) (same_Some s r e) l
 
   pub negate_rewrite : (v r : LiteralValue) → negated_literal v ≡ Some r → RewriteIn literal_negations c context (call function.Negate (literal v)) (literal r)
-  negate_rewrite (lit.Int8 z) r e = signed_to (lit.Int8 z) r _ e (record { by = named.C9; rewrites = C9 {v = lit.Int8 z} {k = kind.Int8} {z = z} tt refl; of_group = refl })
-  negate_rewrite (lit.Int16 z) r e = signed_to (lit.Int16 z) r _ e (record { by = named.C9; rewrites = C9 {v = lit.Int16 z} {k = kind.Int16} {z = z} tt refl; of_group = refl })
-  negate_rewrite (lit.Int32 z) r e = signed_to (lit.Int32 z) r _ e (record { by = named.C9; rewrites = C9 {v = lit.Int32 z} {k = kind.Int32} {z = z} tt refl; of_group = refl })
-  negate_rewrite (lit.Int64 z) r e = signed_to (lit.Int64 z) r _ e (record { by = named.C9; rewrites = C9 {v = lit.Int64 z} {k = kind.Int64} {z = z} tt refl; of_group = refl })
+  negate_rewrite (lit.Int8 z) r e = signed_to (lit.Int8 z) r _ e (record { by = named.C9; rewrites = C9 {v = lit.Int8 z} {k = value_type.Int8} {z = z} tt refl; of_group = refl })
+  negate_rewrite (lit.Int16 z) r e = signed_to (lit.Int16 z) r _ e (record { by = named.C9; rewrites = C9 {v = lit.Int16 z} {k = value_type.Int16} {z = z} tt refl; of_group = refl })
+  negate_rewrite (lit.Int32 z) r e = signed_to (lit.Int32 z) r _ e (record { by = named.C9; rewrites = C9 {v = lit.Int32 z} {k = value_type.Int32} {z = z} tt refl; of_group = refl })
+  negate_rewrite (lit.Int64 z) r e = signed_to (lit.Int64 z) r _ e (record { by = named.C9; rewrites = C9 {v = lit.Int64 z} {k = value_type.Int64} {z = z} tt refl; of_group = refl })
   negate_rewrite _ r e = cc
 
 -- a signed literal has a negation

@@ -9,7 +9,7 @@ use Rattle.px_types.specs.declared.function.FusedOperator.TheVariants.{MultiplyA
 use Rattle.px_types.specs.declared.operator.Operator.{Operator}
 use Rattle.px_types.specs.declared.operator.Operator.TheVariants as op
 use Rattle.px_types.specs.declared.value_type.ValueType.{ValueType}
-use Rattle.px_types.specs.declared.value_type.ValueType.TheVariants as kind
+use Rattle.px_types.specs.declared.value_type.ValueType.TheVariants as value_type
 use Rattle.px_expr.specs.declared.context.Context.{Context}
 use Rattle.px_expr.specs.Tree.{Node as Root, Alias, Function, Binary, Tree, tree, Trees, none, more, over}
 use Rattle.px_meaning.specs.Check.{IsChecked}
@@ -20,7 +20,7 @@ use Rattle.px_meaning.specs.Rewrites.{Rewrites, C1, C2, C3, C4, C5, C6, C7, C8, 
 use Rattle.px_expr.specs.Plan.{Catalog}
 use Rattle.px_meaning.specs.Signatures.{group_type, group_of as operator_group, Arithmetic, given}
 use Rattle.px_meaning.proofs.Nodes.{binary-has}
-use Rattle.px_meaning.proofs.Typing.{Has-HasKind, HasKind-Has}
+use Rattle.px_meaning.proofs.Typing.{Has-HasType, HasType-Has}
 use Rattle.px_arena.specs.declared.node.AExpr.{AExpr}
 use Rattle.px_arena.specs.declared.node.AExpr.TheVariants as ir
 use Rattle.px_arena.specs.declared.node.Node.{Node}
@@ -107,14 +107,14 @@ product_none items n x t d at e = go (product_of x) refl
 -- operands of a checked sum or difference are integers
 
 is_integer : (k : ValueType) → is_integer_value k ≡ true → IsInteger k
-is_integer kind.UInt8 e = tt
-is_integer kind.UInt16 e = tt
-is_integer kind.UInt32 e = tt
-is_integer kind.UInt64 e = tt
-is_integer kind.Int8 e = tt
-is_integer kind.Int16 e = tt
-is_integer kind.Int32 e = tt
-is_integer kind.Int64 e = tt
+is_integer value_type.UInt8 e = tt
+is_integer value_type.UInt16 e = tt
+is_integer value_type.UInt32 e = tt
+is_integer value_type.UInt64 e = tt
+is_integer value_type.Int8 e = tt
+is_integer value_type.Int16 e = tt
+is_integer value_type.Int32 e = tt
+is_integer value_type.Int64 e = tt
 is_integer _ e = cc
 
 given_integer : (b : Bool) (j k : ValueType) → given b j ≡ Some k → b ≡ true
@@ -123,12 +123,12 @@ given_integer false j k e = cc
 
 may_fuse : (c : Catalog) (o : Operator) (a b : Tree) → operator_group o ≡ Arithmetic → IsChecked c (binary o a b) → is_literal_free a ≡ true → is_literal_free b ≡ true → MayFuse c a b
 may_fuse c o a b arithmetic (k, h) fa fb =
-    let ops = binary-has c o a b k (HasKind-Has c (binary o a b) k h) in
-    let gives : given (is_integer_value ops.kind) ops.kind ≡ Some k = sym (ap (λ g. group_type g ops.kind) arithmetic) ∙ ops.gives in
-    let int = is_integer ops.kind (given_integer (is_integer_value ops.kind) ops.kind k gives) in
+    let ops = binary-has c o a b k (HasType-Has c (binary o a b) k h) in
+    let gives : given (is_integer_value ops.value_type) ops.value_type ≡ Some k = sym (ap (λ g. group_type g ops.value_type) arithmetic) ∙ ops.gives in
+    let int = is_integer ops.value_type (given_integer (is_integer_value ops.value_type) ops.value_type k gives) in
     record {
-      left_integer = (ops.kind, Has-HasKind c a ops.kind ops.left, int);
-      right_integer = (ops.kind, Has-HasKind c b ops.kind ops.right, int);
+      left_integer = (ops.value_type, Has-HasType c a ops.value_type ops.left, int);
+      right_integer = (ops.value_type, Has-HasType c b ops.value_type ops.right, int);
       left_free = free_is a fa;
       right_free = free_is b fb;
     }

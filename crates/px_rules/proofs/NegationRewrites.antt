@@ -26,7 +26,7 @@ use Rattle.px_arena.proofs.Reading.{copy_fits, fresh_apart, below_fits}
 use Rattle.px_arena.proofs.Replaces.{get_added, grown_by_one}
 use Rattle.px_arena.proofs.Runs.{grown_denotes}
 use Rattle.px_rules.specs.declared.simplify_expr.NegatedOperator.{NegatedOperator}
-use Rattle.px_rules.specs.declared.simplify_expr.NegatedOperator.TheVariants.{Opposite, Dual}
+use Rattle.px_rules.specs.declared.simplify_expr.NegatedOperator.TheVariants.{Complement, Dual}
 use Rattle.px_rules.specs.declared.views.BinaryParts.{BinaryParts}
 use Rattle.px_rules.specs.declared.views.BooleanCall.{BooleanCall}
 use Rattle.px_rules.specs.Groups.{group_of, pushed_negations, IsRewriteIn}
@@ -72,12 +72,12 @@ left_of c context _ _ _ (C16 {x}) e = (not_tree x, refl, of_call)
 left_of c context _ _ _ (C17 {t}) e = (truth t, refl, of_boolean)
 left_of c context _ _ _ (C18 {x}) e = (call (function.Boolean boolean.IsNull) x, refl, of_call)
 left_of c context _ _ _ (C19 {x}) e = (call (function.Boolean boolean.IsNotNull) x, refl, of_call)
-left_of c context _ _ _ (C20 {a} {b}) e = (binary op.Eq a b, refl, of_binary (Opposite op.NotEq) refl)
-left_of c context _ _ _ (C21 {a} {b}) e = (binary op.NotEq a b, refl, of_binary (Opposite op.Eq) refl)
-left_of c context _ _ _ (C22 {a} {b}) e = (binary op.Lt a b, refl, of_binary (Opposite op.GtEq) refl)
-left_of c context _ _ _ (C23 {a} {b}) e = (binary op.LtEq a b, refl, of_binary (Opposite op.Gt) refl)
-left_of c context _ _ _ (C24 {a} {b}) e = (binary op.Gt a b, refl, of_binary (Opposite op.LtEq) refl)
-left_of c context _ _ _ (C25 {a} {b}) e = (binary op.GtEq a b, refl, of_binary (Opposite op.Lt) refl)
+left_of c context _ _ _ (C20 {a} {b}) e = (binary op.Eq a b, refl, of_binary (Complement op.NotEq) refl)
+left_of c context _ _ _ (C21 {a} {b}) e = (binary op.NotEq a b, refl, of_binary (Complement op.Eq) refl)
+left_of c context _ _ _ (C22 {a} {b}) e = (binary op.Lt a b, refl, of_binary (Complement op.GtEq) refl)
+left_of c context _ _ _ (C23 {a} {b}) e = (binary op.LtEq a b, refl, of_binary (Complement op.Gt) refl)
+left_of c context _ _ _ (C24 {a} {b}) e = (binary op.Gt a b, refl, of_binary (Complement op.LtEq) refl)
+left_of c context _ _ _ (C25 {a} {b}) e = (binary op.GtEq a b, refl, of_binary (Complement op.Lt) refl)
 left_of c context _ _ _ (C26 p) e = cc
 left_of c context _ _ _ (C27 p q) e = cc
 left_of c context _ _ _ (C28 p) e = cc
@@ -88,10 +88,10 @@ module _ (c : Catalog) (context : Context) where
   NotRewrite = IsRewriteIn pushed_negations c context
 
   -- rewrites by what an operator becomes
-  turned : (s v w : Tree) (p o : Operator) → Some (Opposite p) ≡ Some (Opposite o) → RewriteIn pushed_negations c context s (binary p v w) → RewriteIn pushed_negations c context s (binary o v w)
+  turned : (s v w : Tree) (p o : Operator) → Some (Complement p) ≡ Some (Complement o) → RewriteIn pushed_negations c context s (binary p v w) → RewriteIn pushed_negations c context s (binary o v w)
   turned s v w p o e l = let same : p ≡ o = cc in subst (λ (q : Operator). RewriteIn pushed_negations c context s (binary q v w)) same l
 
-  comparison_rewrite : (p o : Operator) (v w : Tree) → inward p ≡ Some (Opposite o) → RewriteIn pushed_negations c context (not_tree (binary p v w)) (binary o v w)
+  comparison_rewrite : (p o : Operator) (v w : Tree) → inward p ≡ Some (Complement o) → RewriteIn pushed_negations c context (not_tree (binary p v w)) (binary o v w)
   comparison_rewrite op.Eq o v w e = turned _ v w op.NotEq o e (record { by = named.C20; rewrites = C20 {a = v} {b = w}; of_group = refl })
   comparison_rewrite op.NotEq o v w e = turned _ v w op.Eq o e (record { by = named.C21; rewrites = C21 {a = v} {b = w}; of_group = refl })
   comparison_rewrite op.Lt o v w e = turned _ v w op.GtEq o e (record { by = named.C22; rewrites = C22 {a = v} {b = w}; of_group = refl })
@@ -198,10 +198,10 @@ module _ (c : Catalog) (context : Context) where
         record { denotes = (Literal (lit.Boolean (not b)), none, refl, refl, tt); apart = λ m i. elim i [ ] },
       )
 
-  pub offer_opposite :
+  pub offer_complement :
       (items : List AExpr) (n : ℕ) (x y : AExpr) (k : BooleanCall) (p : BinaryParts) (o : Operator) → IsCheckedAt c items n → slice_get items n ≡ Some x → not_of x ≡ Some k →
-      slice_get items k.input.0 ≡ Some y → binary_of y ≡ Some p → inward p.op ≡ Some (Opposite o) → Offers NotRewrite items items n (Some (ir.BinaryExpr p.left o p.right))
-  offer_opposite items n x y k p o ok at is at2 is2 turn =
+      slice_get items k.input.0 ≡ Some y → binary_of y ≡ Some p → inward p.op ≡ Some (Complement o) → Offers NotRewrite items items n (Some (ir.BinaryExpr p.left o p.right))
+  offer_complement items n x y k p o ok at is at2 is2 turn =
       let a = arm items n x k ok at is in
       let r = reads_binary items k.input.0 y p a.u a.of_input at2 is2 in
       let same : a.t ≡ not_tree (binary p.op r.left r.right) = a.whole ∙ ap not_tree r.whole in (

@@ -26,12 +26,12 @@ module _ (c : Catalog) (context : Context) where
       go boolean_rule e = inr (inl (record { rewrite = rewrite; of_rule = e }))
       go fused_rule e = inr (inr (record { rewrite = rewrite; of_rule = e }))
 
-  joined : (t t' : Tree) → AnyRewrite t t' → IsRewrite c context t t'
-  joined t t' rewrite = elim rewrite [ inl a ↦ a.rewrite | inr b ↦ elim b [ inl d ↦ d.rewrite | inr f ↦ f.rewrite ] ]
+  broadcast_length : (t t' : Tree) → AnyRewrite t t' → IsRewrite c context t t'
+  broadcast_length t t' rewrite = elim rewrite [ inl a ↦ a.rewrite | inr b ↦ elim b [ inl d ↦ d.rewrite | inr f ↦ f.rewrite ] ]
 
   moved : (old new : List AExpr) (n : ℕ) (o : Option AExpr) → Offers AnyRewrite old new n o → Offers (IsRewrite c context) old new n o
   moved old new n None h = λ t d t' rewrite. h t d t' (parted t t' rewrite)
-  moved old new n (Some e) (t, t', d, rewrite, fits) = (t, t', d, joined t t' rewrite, fits)
+  moved old new n (Some e) (t, t', d, rewrite, fits) = (t, t', d, broadcast_length t t' rewrite, fits)
 
   pub offers_second :
       (old mid new : List AExpr) (n : ℕ) (e : AExpr) → IsCheckedAt c old n → IsGrown old mid → Offers (IsRewriteOf expr_rule c context) old mid n None →

@@ -2,13 +2,13 @@
 use Rattle.std.specs.Prelude.{ℤ, pos, neg_ℤ, ◌+ℤ◌, ◌-ℤ◌, ◌*ℤ◌, Bool, not, ◌&&◌, ◌||◌, cond, Option, Some, None, option_map}
 use Rattle.std.specs.Ordering.{is_lt, is_eq, int_cmp, bool_cmp}
 use Rattle.std.specs.declared.cmp.Ordering.{Ordering}
-use Rattle.px_types.specs.Arithmetic.{is_zero}
+use Rattle.px_semantics.specs.Arithmetic.{is_zero}
 use Rattle.px_types.specs.Integers.{into}
 use Rattle.px_types.specs.declared.operator.Operator.{Operator}
 use Rattle.px_types.specs.declared.operator.Operator.TheVariants as op
 use Rattle.px_types.specs.declared.value_type.ValueType.{ValueType}
-use Rattle.px_types.specs.declared.value_type.ValueType.TheVariants as kind
-use Rattle.px_operations.specs.Quotients.{quotient_of, rest_of}
+use Rattle.px_types.specs.declared.value_type.ValueType.TheVariants as value_type
+use Rattle.px_integers.specs.Quotients.{quotient_of, remainder_of}
 use Rattle.px_expr.specs.declared.literal.LiteralValue.{LiteralValue}
 use Rattle.px_expr.specs.declared.literal.LiteralValue.TheVariants as lit
 use Rattle.px_meaning.specs.Literals.{literal_of}
@@ -32,7 +32,7 @@ calculated op.Minus k x y = Some (into k (x -ℤ y))
 calculated op.Multiply k x y = Some (into k (x *ℤ y))
 calculated op.Divide k x y = cond (is_zero y) None (Some (quotient_of k x y))
 calculated op.FloorDivide k x y = cond (is_zero y) None (Some (quotient_of k x y))
-calculated op.Modulus k x y = cond (is_zero y) None (Some (rest_of x y))
+calculated op.Modulus k x y = cond (is_zero y) None (Some (remainder_of x y))
 calculated _ k x y = None
 
 abbrev pub or_boolean : ValueType → Option ℤ → Option Bool → Option LiteralValue
@@ -53,20 +53,20 @@ folded_booleans o a b = compared o (bool_cmp a b) (bool_cmp b a)
 
 abbrev pub folded_literals : Operator → LiteralValue → LiteralValue → Option LiteralValue
 folded_literals o (lit.Boolean a) (lit.Boolean b) = option_map lit.Boolean (folded_booleans o a b)
-folded_literals o (lit.UInt8 x) (lit.UInt8 y) = folded_numbers o kind.UInt8 (pos x) (pos y)
-folded_literals o (lit.UInt16 x) (lit.UInt16 y) = folded_numbers o kind.UInt16 (pos x) (pos y)
-folded_literals o (lit.UInt32 x) (lit.UInt32 y) = folded_numbers o kind.UInt32 (pos x) (pos y)
-folded_literals o (lit.UInt64 x) (lit.UInt64 y) = folded_numbers o kind.UInt64 (pos x) (pos y)
-folded_literals o (lit.Int8 x) (lit.Int8 y) = folded_numbers o kind.Int8 x y
-folded_literals o (lit.Int16 x) (lit.Int16 y) = folded_numbers o kind.Int16 x y
-folded_literals o (lit.Int32 x) (lit.Int32 y) = folded_numbers o kind.Int32 x y
-folded_literals o (lit.Int64 x) (lit.Int64 y) = folded_numbers o kind.Int64 x y
+folded_literals o (lit.UInt8 x) (lit.UInt8 y) = folded_numbers o value_type.UInt8 (pos x) (pos y)
+folded_literals o (lit.UInt16 x) (lit.UInt16 y) = folded_numbers o value_type.UInt16 (pos x) (pos y)
+folded_literals o (lit.UInt32 x) (lit.UInt32 y) = folded_numbers o value_type.UInt32 (pos x) (pos y)
+folded_literals o (lit.UInt64 x) (lit.UInt64 y) = folded_numbers o value_type.UInt64 (pos x) (pos y)
+folded_literals o (lit.Int8 x) (lit.Int8 y) = folded_numbers o value_type.Int8 x y
+folded_literals o (lit.Int16 x) (lit.Int16 y) = folded_numbers o value_type.Int16 x y
+folded_literals o (lit.Int32 x) (lit.Int32 y) = folded_numbers o value_type.Int32 x y
+folded_literals o (lit.Int64 x) (lit.Int64 y) = folded_numbers o value_type.Int64 x y
 folded_literals o _ _ = None
 
 -- the negation of a signed literal, taken into its type
 abbrev pub negated_literal : LiteralValue → Option LiteralValue
-negated_literal (lit.Int8 z) = Some (lit.Int8 (into kind.Int8 (neg_ℤ z)))
-negated_literal (lit.Int16 z) = Some (lit.Int16 (into kind.Int16 (neg_ℤ z)))
-negated_literal (lit.Int32 z) = Some (lit.Int32 (into kind.Int32 (neg_ℤ z)))
-negated_literal (lit.Int64 z) = Some (lit.Int64 (into kind.Int64 (neg_ℤ z)))
+negated_literal (lit.Int8 z) = Some (lit.Int8 (into value_type.Int8 (neg_ℤ z)))
+negated_literal (lit.Int16 z) = Some (lit.Int16 (into value_type.Int16 (neg_ℤ z)))
+negated_literal (lit.Int32 z) = Some (lit.Int32 (into value_type.Int32 (neg_ℤ z)))
+negated_literal (lit.Int64 z) = Some (lit.Int64 (into value_type.Int64 (neg_ℤ z)))
 negated_literal _ = None

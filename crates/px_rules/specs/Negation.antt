@@ -10,17 +10,17 @@ use Rattle.px_arena.specs.declared.node.AExpr.{AExpr}
 use Rattle.px_arena.specs.declared.node.AExpr.TheVariants as ir
 use Rattle.px_arena.specs.declared.node.Node.{Node}
 use Rattle.px_rules.specs.declared.simplify_expr.NegatedOperator.{NegatedOperator}
-use Rattle.px_rules.specs.declared.simplify_expr.NegatedOperator.TheVariants.{Opposite, Dual}
+use Rattle.px_rules.specs.declared.simplify_expr.NegatedOperator.TheVariants.{Complement, Dual}
 use Rattle.px_rules.specs.declared.views.BooleanCall.{BooleanCall}
 
 -- the comparison that holds where this one does not, or the operator over the negated operands
 abbrev pub inward : Operator → Option NegatedOperator
-inward op.Eq = Some (Opposite op.NotEq)
-inward op.NotEq = Some (Opposite op.Eq)
-inward op.Lt = Some (Opposite op.GtEq)
-inward op.LtEq = Some (Opposite op.Gt)
-inward op.Gt = Some (Opposite op.LtEq)
-inward op.GtEq = Some (Opposite op.Lt)
+inward op.Eq = Some (Complement op.NotEq)
+inward op.NotEq = Some (Complement op.Eq)
+inward op.Lt = Some (Complement op.GtEq)
+inward op.LtEq = Some (Complement op.Gt)
+inward op.Gt = Some (Complement op.LtEq)
+inward op.GtEq = Some (Complement op.Lt)
 inward op.And = Some (Dual op.Or)
 inward op.LogicalAnd = Some (Dual op.Or)
 inward op.Or = Some (Dual op.And)

@@ -2,12 +2,12 @@
 use Rattle.std.specs.Prelude.{◌≡◌, ℕ, List, map}
 use Rattle.px_base.specs.declared.error.PlanError.{PlanError}
 use Rattle.px_types.specs.declared.value_type.ValueType.{ValueType}
-use Rattle.px_types.specs.Rows.{Contents}
+use Rattle.px_semantics.specs.Rows.{Contents}
 use Rattle.px_expr.specs.declared.context.Context.{Context}
 use Rattle.px_expr.specs.declared.context.Context.TheVariants.{Select}
 use Rattle.px_expr.specs.Tree.{Tree, Trees, none, more}
 use Rattle.px_expr.specs.Plan.{Catalog}
-use Rattle.px_meaning.specs.Check.{HasKind, IsChecked}
+use Rattle.px_meaning.specs.Check.{HasType, IsChecked}
 use Rattle.px_meaning.specs.Faults.{HasFault}
 use Rattle.px_meaning.specs.Mean.{rows}
 use Rattle.px_meaning.specs.Names.{name}
@@ -36,7 +36,7 @@ places ns = map (λ (n : Node). n.0) ns
 -- the second tree has the type of the first, on every fitting frame the same rows and no other faults, and in a
 -- select the same name
 pub record MeansTheSame (c : Catalog) (context : Context) (t u : Tree) : Type 0 where
-  pub kind : (k : ValueType) → HasKind c t k → HasKind c u k
+  pub value_type : (k : ValueType) → HasType c t k → HasType c u k
   pub rows : (frame : List Contents) → Fits frame c.schema → rows c.kernels frame t ≡ rows c.kernels frame u
   pub name : context ≡ Select → name t ≡ name u
   pub faults : (frame : List Contents) → Fits frame c.schema → (f : PlanError) → HasFault c.kernels frame u f → HasFault c.kernels frame t f

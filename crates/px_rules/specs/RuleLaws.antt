@@ -10,7 +10,7 @@ pub rule_keeps : (r : Rule) (c : Catalog) (context : Context) → KeepsMeaning c
 rule_keeps r c context =
     let all = IsRewrite-keeps c context in
     record {
-      kind = λ t u of_rule. all.kind t u of_rule.rewrite;
+      value_type = λ t u of_rule. all.value_type t u of_rule.rewrite;
       rows = λ t u of_rule. all.rows t u of_rule.rewrite;
       name = λ t u of_rule. all.name t u of_rule.rewrite;
       faults = λ t u of_rule. all.faults t u of_rule.rewrite;

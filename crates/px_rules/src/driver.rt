@@ -23,9 +23,11 @@ fn settle<R: OptimizationRule, L: Ledger>(
     steps: &mut Steps<L>,
 ) -> Result<u64, PlanError>
     requires { IsCheckedAt (⟦<PlanContext<'static> as Plan>⟧.catalog plan.now) arena.old node.0 }
-    ensures runs { (r : ℕ) × (steps.new ≡ steps.old + r) × Runs (R.is_rewrite (⟦<PlanContext<'static> as Plan>⟧.catalog plan.now) plan.now.context) node.0 arena.old arena.new r }
+    ensures runs { (r : ℕ) × (steps.new ≡ steps.old + r)
+        × Runs (R.is_rewrite (⟦<PlanContext<'static> as Plan>⟧.catalog plan.now) plan.now.context) node.0 arena.old arena.new r }
     ensures count { IfOk result (λ n. n ≡ min (steps.new - steps.old) (2 ^ 64 - 1)) }
-    ensures settled { OnOk result ((t : Tree) → Denotes arena.new node.0 t → HasNoRewrite (R.is_rewrite (⟦<PlanContext<'static> as Plan>⟧.catalog plan.now) plan.now.context) t) }
+    ensures settled { OnOk result ((t : Tree) → Denotes arena.new node.0 t
+        → HasNoRewrite (R.is_rewrite (⟦<PlanContext<'static> as Plan>⟧.catalog plan.now) plan.now.context) t) }
     ensures err { OnErr result (result ≡ Err PlanError.OutOfMemory) }
 {
     let mut count: u64 = 0;
@@ -46,9 +48,11 @@ fn visit<R: OptimizationRule, L: Ledger>(
     steps: &mut Steps<L>,
 ) -> Result<u64, PlanError>
     requires { IsCheckedAt (⟦<PlanContext<'static> as Plan>⟧.catalog plan.now) arena.old node.0 }
-    ensures runs { (r : ℕ) × (steps.new ≡ steps.old + r) × Runs (R.is_rewrite (⟦<PlanContext<'static> as Plan>⟧.catalog plan.now) plan.now.context) node.0 arena.old arena.new r }
+    ensures runs { (r : ℕ) × (steps.new ≡ steps.old + r)
+        × Runs (R.is_rewrite (⟦<PlanContext<'static> as Plan>⟧.catalog plan.now) plan.now.context) node.0 arena.old arena.new r }
     ensures count { IfOk result (λ n. n ≡ min (steps.new - steps.old) (2 ^ 64 - 1)) }
-    ensures normal { OnOk result (steps.new ≡ steps.old → (t : Tree) → Denotes arena.new node.0 t → IsNormal (R.is_rewrite (⟦<PlanContext<'static> as Plan>⟧.catalog plan.now) plan.now.context) t) }
+    ensures normal { OnOk result (steps.new ≡ steps.old → (t : Tree) → Denotes arena.new node.0 t
+        → IsNormal (R.is_rewrite (⟦<PlanContext<'static> as Plan>⟧.catalog plan.now) plan.now.context) t) }
     ensures err { OnErr result (result ≡ Err PlanError.OutOfMemory) }
 {
     let mut count = settle(alloc, arena, node, rules, plan, steps)?;
@@ -71,9 +75,12 @@ fn walk<R: OptimizationRule, L: Ledger>(
     steps: &mut Steps<L>,
 ) -> Result<u64, PlanError>
     requires { AreCheckedAt (⟦<PlanContext<'static> as Plan>⟧.catalog plan.now) arena.old (places roots.now) }
-    ensures runs { (r : ℕ) × (steps.new ≡ steps.old + r) × ListRuns (R.is_rewrite (⟦<PlanContext<'static> as Plan>⟧.catalog plan.now) plan.now.context) (places roots.now) arena.old arena.new r }
+    ensures runs { (r : ℕ) × (steps.new ≡ steps.old + r)
+        × ListRuns (R.is_rewrite (⟦<PlanContext<'static> as Plan>⟧.catalog plan.now) plan.now.context)
+        (places roots.now) arena.old arena.new r }
     ensures count { IfOk result (λ n. n ≡ min (steps.new - steps.old) (2 ^ 64 - 1)) }
-    ensures normal { OnOk result (steps.new ≡ steps.old → (us : Trees) → DenoteAll arena.new (places roots.now) us → AreNormal (R.is_rewrite (⟦<PlanContext<'static> as Plan>⟧.catalog plan.now) plan.now.context) us) }
+    ensures normal { OnOk result (steps.new ≡ steps.old → (us : Trees) → DenoteAll arena.new (places roots.now) us
+        → AreNormal (R.is_rewrite (⟦<PlanContext<'static> as Plan>⟧.catalog plan.now) plan.now.context) us) }
     ensures err { OnErr result (result ≡ Err PlanError.OutOfMemory) }
 {
     let mut count: u64 = 0;
@@ -94,9 +101,12 @@ fn walks<R: OptimizationRule, L: Ledger>(
     steps: &mut Steps<L>,
 ) -> Result<u64, PlanError>
     requires { AreCheckedAt (⟦<PlanContext<'static> as Plan>⟧.catalog plan.now) arena.old (places roots.now) }
-    ensures runs { (r : ℕ) × (steps.new ≡ steps.old + r) × ListRuns (R.is_rewrite (⟦<PlanContext<'static> as Plan>⟧.catalog plan.now) plan.now.context) (places roots.now) arena.old arena.new r }
+    ensures runs { (r : ℕ) × (steps.new ≡ steps.old + r)
+        × ListRuns (R.is_rewrite (⟦<PlanContext<'static> as Plan>⟧.catalog plan.now) plan.now.context)
+        (places roots.now) arena.old arena.new r }
     ensures count { IfOk result (λ n. n ≡ min (steps.new - steps.old) (2 ^ 64 - 1)) }
-    ensures normal { OnOk result ((us : Trees) → DenoteAll arena.new (places roots.now) us → AreNormal (R.is_rewrite (⟦<PlanContext<'static> as Plan>⟧.catalog plan.now) plan.now.context) us) }
+    ensures normal { OnOk result ((us : Trees) → DenoteAll arena.new (places roots.now) us
+        → AreNormal (R.is_rewrite (⟦<PlanContext<'static> as Plan>⟧.catalog plan.now) plan.now.context) us) }
     ensures err { OnErr result (result ≡ Err PlanError.OutOfMemory) }
 {
     let mut count: u64 = 0;
@@ -109,7 +119,7 @@ fn walks<R: OptimizationRule, L: Ledger>(
     }
 }
 
-/// Walks over the roots until a walk replaces nothing, and tells how many replacements were made, or
+/// Walks over the roots until a walk replaces nothing, and answers how many replacements were made, or
 /// the greatest number where there were more. Each replacement ticks once. Also after a refusal each
 /// root denotes a tree that its former tree reaches, and that means the same.
 pub fn optimize_loop<R: OptimizationRule, L: Ledger>(
@@ -121,10 +131,14 @@ pub fn optimize_loop<R: OptimizationRule, L: Ledger>(
     steps: &mut Steps<L>,
 ) -> Result<u64, PlanError>
     requires { AreCheckedAt (⟦<PlanContext<'static> as Plan>⟧.catalog plan.now) arena.old (places roots.now.entries) }
-    ensures runs { (r : ℕ) × (steps.new ≡ steps.old + r) × ListRuns (R.is_rewrite (⟦<PlanContext<'static> as Plan>⟧.catalog plan.now) plan.now.context) (places roots.now.entries) arena.old arena.new r }
+    ensures runs { (r : ℕ) × (steps.new ≡ steps.old + r)
+        × ListRuns (R.is_rewrite (⟦<PlanContext<'static> as Plan>⟧.catalog plan.now) plan.now.context)
+        (places roots.now.entries) arena.old arena.new r }
     ensures count { IfOk result (λ n. n ≡ min (steps.new - steps.old) (2 ^ 64 - 1)) }
-    ensures meaning { KeepMeanings (⟦<PlanContext<'static> as Plan>⟧.catalog plan.now) plan.now.context (places roots.now.entries) arena.old arena.new }
-    ensures normal { OnOk result ((us : Trees) → DenoteAll arena.new (places roots.now.entries) us → AreNormal (R.is_rewrite (⟦<PlanContext<'static> as Plan>⟧.catalog plan.now) plan.now.context) us) }
+    ensures meaning { KeepMeanings (⟦<PlanContext<'static> as Plan>⟧.catalog plan.now) plan.now.context
+        (places roots.now.entries) arena.old arena.new }
+    ensures normal { OnOk result ((us : Trees) → DenoteAll arena.new (places roots.now.entries) us
+        → AreNormal (R.is_rewrite (⟦<PlanContext<'static> as Plan>⟧.catalog plan.now) plan.now.context) us) }
     ensures err { OnErr result (result ≡ Err PlanError.OutOfMemory) }
 {
     walks(alloc, arena, roots.as_slice(), rules, plan, steps)

@@ -1,29 +1,28 @@
 //! Operators on two integers of one type.
 ghost use Rattle.std.specs.Prelude.{◌≡◌, option_map};
-ghost use Rattle.px_types.specs.Arithmetic.{is_zero};
-ghost use Rattle.px_operations.specs.Quotients.{quotient_of, rest_of};
+ghost use Rattle.px_semantics.specs.Arithmetic.{is_zero};
+ghost use Rattle.px_integers.specs.Quotients.{quotient_of, remainder_of};
 ghost use Rattle.px_meaning.specs.Literals.{literal_of};
 ghost use Rattle.px_rules.specs.Folding.{compared, calculated, folded_numbers};
 
 use px_expr::LiteralValue;
-use px_integers::Number;
-use px_operations::{Operation, Quotient, Rest};
+use px_integers::{Integer, Operation, Quotient, Remainder};
 use px_types::Operator;
 use std::cmp::Ordering;
 
 /// An integer that operators fold.
-pub trait FoldInteger: Number {
-    /// The quotient rounded down, taken into the type, and 0 where the divisor is 0.
+pub trait FoldInteger: Integer {
+    /// The floor quotient, taken into the type, and 0 where the divisor is 0.
     fn quotient(self, other: Self) -> Self
-        ensures { Self.number result ≡ quotient_of Self.kind (Self.number self) (Self.number other) };
+        ensures { Self.integer result ≡ quotient_of Self.value_type (Self.integer self) (Self.integer other) };
 
     /// What it leaves.
     fn rest(self, other: Self) -> Self
-        ensures { Self.number result ≡ rest_of (Self.number self) (Self.number other) };
+        ensures { Self.integer result ≡ remainder_of (Self.integer self) (Self.integer other) };
 
     /// Its literal.
     fn literal(self) -> LiteralValue
-        ensures { result ≡ literal_of Self.kind (Self.number self) };
+        ensures { result ≡ literal_of Self.value_type (Self.integer self) };
 }
 
 impl FoldInteger for u8 {
@@ -32,7 +31,7 @@ impl FoldInteger for u8 {
     }
 
     fn rest(self, other: u8) -> u8 {
-        Rest::apply(self, other)
+        Remainder::apply(self, other)
     }
 
     fn literal(self) -> LiteralValue {
@@ -46,7 +45,7 @@ impl FoldInteger for u16 {
     }
 
     fn rest(self, other: u16) -> u16 {
-        Rest::apply(self, other)
+        Remainder::apply(self, other)
     }
 
     fn literal(self) -> LiteralValue {
@@ -60,7 +59,7 @@ impl FoldInteger for u32 {
     }
 
     fn rest(self, other: u32) -> u32 {
-        Rest::apply(self, other)
+        Remainder::apply(self, other)
     }
 
     fn literal(self) -> LiteralValue {
@@ -74,7 +73,7 @@ impl FoldInteger for u64 {
     }
 
     fn rest(self, other: u64) -> u64 {
-        Rest::apply(self, other)
+        Remainder::apply(self, other)
     }
 
     fn literal(self) -> LiteralValue {
@@ -88,7 +87,7 @@ impl FoldInteger for i8 {
     }
 
     fn rest(self, other: i8) -> i8 {
-        Rest::apply(self, other)
+        Remainder::apply(self, other)
     }
 
     fn literal(self) -> LiteralValue {
@@ -102,7 +101,7 @@ impl FoldInteger for i16 {
     }
 
     fn rest(self, other: i16) -> i16 {
-        Rest::apply(self, other)
+        Remainder::apply(self, other)
     }
 
     fn literal(self) -> LiteralValue {
@@ -116,7 +115,7 @@ impl FoldInteger for i32 {
     }
 
     fn rest(self, other: i32) -> i32 {
-        Rest::apply(self, other)
+        Remainder::apply(self, other)
     }
 
     fn literal(self) -> LiteralValue {
@@ -130,7 +129,7 @@ impl FoldInteger for i64 {
     }
 
     fn rest(self, other: i64) -> i64 {
-        Rest::apply(self, other)
+        Remainder::apply(self, other)
     }
 
     fn literal(self) -> LiteralValue {
@@ -154,14 +153,14 @@ pub fn compared(op: Operator, there: Ordering, back: Ordering) -> Option<bool>
 }
 
 fn is_zero<T: FoldInteger>(x: T) -> bool
-    ensures { result ≡ is_zero (T.number x) }
+    ensures { result ≡ is_zero (T.integer x) }
 {
     x.to_wide() == 0
 }
 
 /// An operator of arithmetic on two integers.
 fn calculated<T: FoldInteger>(op: Operator, x: T, y: T) -> Option<T>
-    ensures { option_map T.number result ≡ calculated op T.kind (T.number x) (T.number y) }
+    ensures { option_map T.integer result ≡ calculated op T.value_type (T.integer x) (T.integer y) }
 {
     match op {
         Operator::Plus => Some(x.plus(y)),
@@ -181,7 +180,7 @@ fn calculated<T: FoldInteger>(op: Operator, x: T, y: T) -> Option<T>
 
 /// An operator on two integers.
 pub fn fold_numbers<T: FoldInteger>(op: Operator, x: T, y: T) -> Option<LiteralValue>
-    ensures { result ≡ folded_numbers op T.kind (T.number x) (T.number y) }
+    ensures { result ≡ folded_numbers op T.value_type (T.integer x) (T.integer y) }
 {
     match calculated(op, x, y) {
         Some(z) => Some(z.literal()),

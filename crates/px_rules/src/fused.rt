@@ -146,7 +146,8 @@ fn fuse(
 ) -> Result<Option<AExpr>, PlanError>
     requires { IsCheckedAt (⟦<PlanContext<'static> as Plan>⟧.catalog plan.now) arena.old node.0 }
     ensures kept { IsGrown arena.old arena.new }
-    ensures answer { IfOk result (Offers (IsRewriteIn fused_products (⟦<PlanContext<'static> as Plan>⟧.catalog plan.now) plan.now.context) arena.old arena.new node.0) }
+    ensures answer { IfOk result (Offers (IsRewriteIn fused_products
+        (⟦<PlanContext<'static> as Plan>⟧.catalog plan.now) plan.now.context) arena.old arena.new node.0) }
     ensures options { IfOk result (KeepsOptions arena.old arena.new node.0) }
     ensures err { OnErr result (result ≡ Err PlanError.OutOfMemory) }
 {

@@ -29,7 +29,8 @@ fn is_literal_free(arena: &Arena, node: Node) -> bool
 pub fn both_literal_free(arena: &Arena, left: Node, right: Node) -> bool
     requires left { (t : Tree) × Denotes arena.now left.0 t }
     requires right { (u : Tree) × Denotes arena.now right.0 u }
-    ensures { (t : Tree) → (u : Tree) → Denotes arena.now left.0 t → Denotes arena.now right.0 u → result ≡ (is_literal_free t && is_literal_free u) }
+    ensures { (t : Tree) → (u : Tree) → Denotes arena.now left.0 t → Denotes arena.now right.0 u
+        → result ≡ (is_literal_free t && is_literal_free u) }
 {
     if is_literal_free(arena, left) {
         is_literal_free(arena, right)

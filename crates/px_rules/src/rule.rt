@@ -32,7 +32,8 @@ pub trait OptimizationRule {
     ) -> Result<Option<AExpr>, PlanError>
         requires { IsCheckedAt (⟦<PlanContext<'static> as Plan>⟧.catalog plan.now) arena.old node.0 }
         ensures kept { IsGrown arena.old arena.new }
-        ensures answer { IfOk result (Offers (is_rewrite (⟦<PlanContext<'static> as Plan>⟧.catalog plan.now) plan.now.context) arena.old arena.new node.0) }
+        ensures answer { IfOk result (Offers
+            (is_rewrite (⟦<PlanContext<'static> as Plan>⟧.catalog plan.now) plan.now.context) arena.old arena.new node.0) }
         ensures options { IfOk result (KeepsOptions arena.old arena.new node.0) }
         ensures err { OnErr result (result ≡ Err PlanError.OutOfMemory) };
 

@@ -82,7 +82,8 @@ fn drop_boolean(
     plan: &PlanContext<'_>,
 ) -> Result<Option<AExpr>, PlanError>
     requires { IsCheckedAt (⟦<PlanContext<'static> as Plan>⟧.catalog plan.now) arena.now node.0 }
-    ensures answer { IfOk result (Offers (IsRewriteIn boolean_operands (⟦<PlanContext<'static> as Plan>⟧.catalog plan.now) plan.now.context) arena.now arena.now node.0) }
+    ensures answer { IfOk result (Offers (IsRewriteIn boolean_operands
+        (⟦<PlanContext<'static> as Plan>⟧.catalog plan.now) plan.now.context) arena.now arena.now node.0) }
     ensures options { IfOk result (KeepsOptions arena.now arena.now node.0) }
     ensures err { OnErr result (result ≡ Err PlanError.OutOfMemory) }
 {
@@ -122,7 +123,7 @@ fn drop_boolean(
 }
 
 fn negated_number<T: FoldInteger>(x: T) -> LiteralValue
-    ensures { result ≡ literal_of T.kind (into T.kind (neg_ℤ (T.number x))) }
+    ensures { result ≡ literal_of T.value_type (into T.value_type (neg_ℤ (T.integer x))) }
 {
     T::zero().minus(x).literal()
 }
@@ -143,7 +144,8 @@ fn negated_literal(value: &LiteralValue) -> Option<LiteralValue>
 /// A minus over a signed literal.
 fn negate_literal(arena: &Arena, node: Node, plan: &PlanContext<'_>) -> Option<AExpr>
     requires { IsCheckedAt (⟦<PlanContext<'static> as Plan>⟧.catalog plan.now) arena.now node.0 }
-    ensures answer { Offers (IsRewriteIn literal_negations (⟦<PlanContext<'static> as Plan>⟧.catalog plan.now) plan.now.context) arena.now arena.now node.0 result }
+    ensures answer { Offers (IsRewriteIn literal_negations
+        (⟦<PlanContext<'static> as Plan>⟧.catalog plan.now) plan.now.context) arena.now arena.now node.0 result }
     ensures options { KeepsOptions arena.now arena.now node.0 result }
 {
     let Some(input) = negate_of(arena.get(node)) else {

@@ -20,7 +20,7 @@ use std::alloc::Global;
 /// What a `not` makes of an operator.
 pub enum NegatedOperator {
     /// The comparison that holds where this one does not.
-    Opposite(Operator),
+    Complement(Operator),
     /// This operator over the negated operands.
     Dual(Operator),
 }
@@ -29,12 +29,12 @@ fn inward(op: Operator) -> Option<NegatedOperator>
     ensures { result ≡ inward op }
 {
     match op {
-        Operator::Eq => Some(NegatedOperator::Opposite(Operator::NotEq)),
-        Operator::NotEq => Some(NegatedOperator::Opposite(Operator::Eq)),
-        Operator::Lt => Some(NegatedOperator::Opposite(Operator::GtEq)),
-        Operator::LtEq => Some(NegatedOperator::Opposite(Operator::Gt)),
-        Operator::Gt => Some(NegatedOperator::Opposite(Operator::LtEq)),
-        Operator::GtEq => Some(NegatedOperator::Opposite(Operator::Lt)),
+        Operator::Eq => Some(NegatedOperator::Complement(Operator::NotEq)),
+        Operator::NotEq => Some(NegatedOperator::Complement(Operator::Eq)),
+        Operator::Lt => Some(NegatedOperator::Complement(Operator::GtEq)),
+        Operator::LtEq => Some(NegatedOperator::Complement(Operator::Gt)),
+        Operator::Gt => Some(NegatedOperator::Complement(Operator::LtEq)),
+        Operator::GtEq => Some(NegatedOperator::Complement(Operator::Lt)),
         Operator::And | Operator::LogicalAnd => Some(NegatedOperator::Dual(Operator::Or)),
         Operator::Or | Operator::LogicalOr => Some(NegatedOperator::Dual(Operator::And)),
         _ => None,
@@ -111,7 +111,8 @@ fn push_not(
 ) -> Result<Option<AExpr>, PlanError>
     requires { IsCheckedAt (⟦<PlanContext<'static> as Plan>⟧.catalog plan.now) arena.old node.0 }
     ensures kept { IsGrown arena.old arena.new }
-    ensures answer { IfOk result (Offers (IsRewriteIn pushed_negations (⟦<PlanContext<'static> as Plan>⟧.catalog plan.now) plan.now.context) arena.old arena.new node.0) }
+    ensures answer { IfOk result (Offers (IsRewriteIn pushed_negations
+        (⟦<PlanContext<'static> as Plan>⟧.catalog plan.now) plan.now.context) arena.old arena.new node.0) }
     ensures options { IfOk result (KeepsOptions arena.old arena.new node.0) }
     ensures err { OnErr result (result ≡ Err PlanError.OutOfMemory) }
 {
@@ -124,7 +125,7 @@ fn push_not(
         None => match binary_of(under) {
             Some(inner) => match inward(inner.op) {
                 None => Ok(None),
-                Some(NegatedOperator::Opposite(op)) => Ok(Some(AExpr::BinaryExpr {
+                Some(NegatedOperator::Complement(op)) => Ok(Some(AExpr::BinaryExpr {
                     left: inner.left,
                     op,
                     right: inner.right,
@@ -182,7 +183,8 @@ fn fold_literals(op: Operator, left: &LiteralValue, right: &LiteralValue) -> Opt
 /// An operator over two literals of one type.
 fn fold(arena: &Arena, node: Node, plan: &PlanContext<'_>) -> Option<AExpr>
     requires { IsCheckedAt (⟦<PlanContext<'static> as Plan>⟧.catalog plan.now) arena.now node.0 }
-    ensures answer { Offers (IsRewriteIn literal_folds (⟦<PlanContext<'static> as Plan>⟧.catalog plan.now) plan.now.context) arena.now arena.now node.0 result }
+    ensures answer { Offers (IsRewriteIn literal_folds
+        (⟦<PlanContext<'static> as Plan>⟧.catalog plan.now) plan.now.context) arena.now arena.now node.0 result }
     ensures options { KeepsOptions arena.now arena.now node.0 result }
 {
     let Some(parts) = binary_of(arena.get(node)) else {

@@ -12,7 +12,7 @@ pub record Readable : Type 0 where
 
 -- the bytes that are held, the most that there is room for, the number of the next write, the writes that fail, and how many have failed
 pub record Writable : Type 0 where
-  pub held : List ℕ
+  pub contents : List ℕ
   pub room : ℕ
   pub next : ℕ
   pub failing : List ℕ
@@ -36,7 +36,7 @@ after_failed_read s = record s { next = next_count s.next; faults = next_count s
 
 -- how many more bytes fit
 abbrev pub room_left : Writable → ℕ
-room_left s = s.room - length s.held
+room_left s = s.room - length s.contents
 
 -- whether the next write fails: it is listed, or nothing fits of a piece that has so many bytes
 abbrev pub write_fails : Writable → ℕ → Bool
@@ -44,7 +44,7 @@ write_fails s size = (room_left s == 0 && nat_lt 0 size) || is_listed s.failing 
 
 -- after a write that put these bytes
 abbrev pub after_write : Writable → List ℕ → Writable
-after_write s bytes = record s { held = s.held ++ bytes; next = next_count s.next }
+after_write s bytes = record s { contents = s.contents ++ bytes; next = next_count s.next }
 
 -- after a write that failed
 abbrev pub after_failed_write : Writable → Writable

@@ -16,8 +16,8 @@ use std::alloc::Global;
 use std::marker::Model;
 
 /// A source over bytes whose reads are numbered from 0. Those in `failing` fail and take nothing;
-/// each other read gives as many bytes as the buffer holds. The number and the count of faults stop
-/// at 2^64 - 1.
+/// each other read gives as many bytes as the buffer holds, or all that are left. The number and
+/// the count of faults stop at 2^64 - 1.
 #[derive(Drop)]
 pub struct MemorySource {
     bytes: Vec<u8>,
@@ -39,7 +39,8 @@ impl Model for MemorySource {
 }
 
 impl MemorySource {
-    /// A source of these bytes, whose reads at the listed numbers fail.
+    /// A source of a copy of these bytes, whose reads at the listed numbers fail. The only error is
+    /// out of memory.
     pub fn new(alloc: Global, bytes: &[u8], failing: &[u64]) -> Result<MemorySource, PlanError>
         ensures { GivesOrMemory result (record { left = bytes.now; next = 0; failing = failing.now; faults = 0 }) }
     {
@@ -89,7 +90,8 @@ impl Source for MemorySource {
     }
 }
 
-/// A source over bytes that never fails. Each read gives as many bytes as the buffer holds.
+/// A source over bytes that never fails. Each read gives as many bytes as the buffer holds, or all
+/// that are left.
 #[derive(Drop)]
 pub struct SteadySource {
     bytes: Vec<u8>,
@@ -107,7 +109,7 @@ impl Model for SteadySource {
 }
 
 impl SteadySource {
-    /// A source of these bytes.
+    /// A source of a copy of these bytes. The only error is out of memory.
     pub fn new(alloc: Global, bytes: &[u8]) -> Result<SteadySource, PlanError>
         ensures { GivesOrMemory result bytes.now }
     {
@@ -157,15 +159,16 @@ impl Model for MemorySink {
 
     ghost Value = { Writable };
 
-    ghost view = { λ s. record { held = s.bytes.items; room = s.room; next = s.next; failing = s.failing.items; faults = s.faults } };
+    ghost view = { λ s. record { contents = s.bytes.items; room = s.room; next = s.next; failing = s.failing.items; faults = s.faults } };
 
     ghost invariant = { λ s. (length s.bytes.items ≤ s.room) × (s.room ≤ vec_capacity s.bytes) };
 }
 
 impl MemorySink {
-    /// An empty sink with this room, whose writes at the listed numbers fail.
+    /// An empty sink with room for so many bytes, whose writes at the listed numbers fail. The only
+    /// error is out of memory.
     pub fn new(alloc: Global, room: usize, failing: &[u64]) -> Result<MemorySink, PlanError>
-        ensures { GivesOrMemory result (record { held = []; room = room; next = 0; failing = failing.now; faults = 0 }) }
+        ensures { GivesOrMemory result (record { contents = []; room = room; next = 0; failing = failing.now; faults = 0 }) }
     {
         Ok(MemorySink {
             bytes: Vec::with_capacity(alloc, room)?,
@@ -177,22 +180,22 @@ impl MemorySink {
     }
 
     /// The bytes that it holds.
-    pub fn held(&self) -> &[u8]
-        ensures { result.now ≡ self.now.held }
+    pub fn contents(&self) -> &[u8]
+        ensures { result.now ≡ self.now.contents }
     {
         self.bytes.as_slice()
     }
 }
 
 impl Sink for MemorySink {
-    ghost held = { λ s. Some s.held };
+    ghost contents = { λ s. Some s.contents };
 
     ghost faults = { λ s. s.faults };
 
     fn write(&mut self, piece: &[u8]) -> Result<usize, Failed>
         ensures bound { WritesAtMost result piece.now }
         ensures moves { 0 < length piece.now → IfOk result (λ count. 0 < count) }
-        ensures bytes { WriteAppends (Some self.old.held) (Some self.new.held) result piece.now }
+        ensures bytes { WriteAppends (Some self.old.contents) (Some self.new.contents) result piece.now }
         ensures cause { HasCause self.old.faults self.new.faults result }
 
         // Which writes fail, and how many bytes the others take.
@@ -221,13 +224,14 @@ impl Sink for MemorySink {
 pub struct SteadySink {}
 
 impl SteadySink {
+    /// Such a sink.
     pub fn new() -> SteadySink {
         SteadySink {}
     }
 }
 
 impl Sink for SteadySink {
-    ghost held = { λ _. None };
+    ghost contents = { λ _. None };
 
     ghost faults = { λ _. 0 };
 

@@ -9,8 +9,8 @@ use crate::failed::Failed;
 
 /// A sink of bytes.
 pub trait Sink {
-    /// The bytes that it holds, where the sink tells them.
-    ghost held: { Self → Option (List ℕ) };
+    /// The bytes that it holds, where they are known.
+    ghost contents: { Self → Option (List ℕ) };
 
     /// How often a write has failed.
     ghost faults: { Self → ℕ };
@@ -20,14 +20,16 @@ pub trait Sink {
     fn write(&mut self, piece: &[u8]) -> Result<usize, Failed>
         ensures bound { WritesAtMost result piece.now }
         ensures moves { 0 < length piece.now → IfOk result (λ count. 0 < count) }
-        ensures bytes { WriteAppends (held self.old) (held self.new) result piece.now }
+        ensures bytes { WriteAppends (contents self.old) (contents self.new) result piece.now }
         ensures cause { HasCause (faults self.old) (faults self.new) result };
 }
 
-/// Writes all the bytes. On a fault, a part at the front of them was written, and not all.
+/// Writes all the bytes. After an error, a part at the front of them was written, and not all, and
+/// a fault was counted.
 pub fn write_whole<K: Sink>(sink: &mut K, bytes: &[u8]) -> Result<(), Failed>
-    ensures all { OnOk result (Appends (K.held sink.old) (K.held sink.new) bytes.now) }
-    ensures part { OnErr result ((count : ℕ) × (count < length bytes.now) × Appends (K.held sink.old) (K.held sink.new) (take count bytes.now)) }
+    ensures all { OnOk result (Appends (K.contents sink.old) (K.contents sink.new) bytes.now) }
+    ensures part { OnErr result ((count : ℕ) × (count < length bytes.now)
+        × Appends (K.contents sink.old) (K.contents sink.new) (take count bytes.now)) }
     ensures cause { HasCause (K.faults sink.old) (K.faults sink.new) result }
 {
     let mut written = 0;

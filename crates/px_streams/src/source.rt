@@ -17,7 +17,7 @@ const BUFFER: usize = 65_536;
 
 /// A source of bytes.
 pub trait Source {
-    /// The bytes that are left, where the source tells them.
+    /// The bytes that are left, where they are known.
     ghost left: { Self → Option (List ℕ) };
 
     /// How often a read has failed.
@@ -34,8 +34,11 @@ pub trait Source {
 /// Why a source was not read to its end.
 #[derive(Clone, Copy, Debug, PartialEq, Eq)]
 pub enum ReadError {
+    /// No memory was left for the bytes.
     OutOfMemory,
+    /// A read failed, and was counted.
     ReadFault,
+    /// More than `LIMIT` bytes were taken.
     TooLarge,
 }
 
@@ -61,8 +64,8 @@ impl<T: Drop> From<AllocFailed<T>> for ReadError {
     }
 }
 
-/// All the bytes that a source has left, at most `LIMIT`. `TooLarge` comes where this call took more
-/// than that, `ReadFault` where a read failed before.
+/// All the bytes that a source has left, at most `LIMIT`. `TooLarge` comes where this call took
+/// more than that, `ReadFault` where a read failed before; else the only error is out of memory.
 pub fn read_whole<S: Source>(alloc: Global, source: &mut S) -> Result<Vec<u8>, ReadError>
     ensures all { IfOk result (λ bytes. IfSome (S.left source.old) (λ whole. bytes.items ≡ whole)) }
     ensures within { IfOk result (λ bytes. length bytes.items ≤ LIMIT) }
@@ -70,8 +73,9 @@ pub fn read_whole<S: Source>(alloc: Global, source: &mut S) -> Result<Vec<u8>, R
 
     ensures too_large { IsErrOf result ReadError.TooLarge → TookMore (S.left source.old) (S.left source.new) LIMIT }
     ensures fault { IsErrOf result ReadError.ReadFault → Rose (S.faults source.old) (S.faults source.new) }
-    ensures fault_within { IsErrOf result ReadError.ReadFault → TookAtMost (S.left source.old) (S.left source.new) LIMIT }
-    ensures later { S.faults source.old ≤ S.faults source.new }
+    ensures fault_within { IsErrOf result ReadError.ReadFault
+        → TookAtMost (S.left source.old) (S.left source.new) LIMIT }
+    ensures faults_count_up { S.faults source.old ≤ S.faults source.new }
 {
     let mut storage = make_buffer(alloc)?;
     let buffer = storage.as_mut_slice();

@@ -1,4 +1,4 @@
-//! Standard input and output. They tell nothing of what they give and hold: this is the edge that is
+//! Standard input and output. What they give and hold is not known to contracts: this is the edge that is
 //! trusted.
 ghost use Rattle.std.specs.Prelude.{◌≡◌, ◌<◌, ◌≤◌, length, None, OnOk, OnErr, IfOk, IfSome};
 ghost use Rattle.std.specs.Io.{ReadsAtMost, WritesAtMost};
@@ -15,8 +15,8 @@ use std::marker::Model;
 /// How often a read or a write is tried that a signal interrupts.
 const TRIES: u32 = 1024;
 
-/// A source over a reader, as standard input is. Contracts see how many reads have failed. An
-/// interrupted read is tried again, up to 1024 times in all.
+/// A source over a reader, as standard input is. Contracts see how many reads have failed. A read
+/// that a signal interrupts is tried again, up to 1024 times in all.
 #[derive(Drop)]
 pub struct StdSource<R> {
     reader: R,
@@ -32,6 +32,7 @@ impl<R> Model for StdSource<R> {
 }
 
 impl<R> StdSource<R> {
+    /// A source over the reader, without faults.
     pub fn new(reader: R) -> StdSource<R>
         ensures { result ≡ 0 }
     {
@@ -63,8 +64,8 @@ impl<R: Read> Source for StdSource<R> {
     }
 }
 
-/// A sink that prints to standard output and flushes after each write. Contracts see how many writes
-/// have failed. An interrupted write is tried again, up to 1024 times in all.
+/// A sink that prints to standard output and flushes after each write. Contracts see how many
+/// writes have failed. A write that a signal interrupts is tried again, up to 1024 times in all.
 #[derive(Drop)]
 pub struct StdSink<R> {
     rt: R,
@@ -80,6 +81,7 @@ impl<R> Model for StdSink<R> {
 }
 
 impl<R> StdSink<R> {
+    /// A sink over standard output, without faults.
     pub fn new(rt: R) -> StdSink<R>
         ensures { result ≡ 0 }
     {
@@ -88,7 +90,7 @@ impl<R> StdSink<R> {
 }
 
 impl<R: Print> Sink for StdSink<R> {
-    ghost held = { λ _. None };
+    ghost contents = { λ _. None };
 
     ghost faults = { λ s. s };
 

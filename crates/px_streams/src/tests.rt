@@ -88,7 +88,7 @@ fn writes(alloc: Global, room: usize, failing: &[u64], pieces: &[&str]) -> Resul
             Err(Failed {}) => "!|",
         })?;
     }
-    told.push_str(text_of(sink.held()))?;
+    told.push_str(text_of(sink.contents()))?;
     Ok(told)
 }
 
@@ -160,7 +160,7 @@ fn the_loops_stop_at_a_fault(rt: HostRuntime) -> Result<(), Fail> {
     assert_eq!(rt; source.left().len(), 0);
     let mut sink = MemorySink::new(alloc, 2, &[])?;
     assert!(rt; write_whole(&mut sink, b"abc").is_err());
-    assert_eq!(rt; sink.held(), b"ab".as_slice());
+    assert_eq!(rt; sink.contents(), b"ab".as_slice());
     Ok(())
 }
 

@@ -1,6 +1,7 @@
 //! Reading.
 
-use crate::words::{Word, word_of};
+use crate::columns::read_column;
+use crate::words::{Word, type_named, word_of};
 use px_expr::{AggExpr, Expr, ExprList, LiteralValue, binary_expr};
 use px_types::{
     CastOptions, FunctionExpr, FunctionOptions, List, Operator, PlanError, SmallStr, ValueType,
@@ -79,12 +80,12 @@ fn kernel(alloc: Global, stack: &mut Vec<Expr>) -> Result<Expr, PlanError> {
 fn cast(
     alloc: Global,
     stack: &mut Vec<Expr>,
-    kind: ValueType,
+    value_type: ValueType,
     options: CastOptions,
 ) -> Result<Expr, PlanError> {
     Ok(Expr::Cast {
         expr: boxed(alloc, pop(stack)?)?,
-        dtype: kind.dtype(),
+        dtype: value_type.dtype(),
         options,
     })
 }
@@ -111,7 +112,7 @@ fn node_of(alloc: Global, stack: &mut Vec<Expr>, word: Word) -> Result<Expr, Pla
         Word::Predicate(own, count) => function(alloc, stack, FunctionExpr::Boolean(own), count),
         Word::Negate => function(alloc, stack, FunctionExpr::Negate, 1),
         Word::Fused(own, count) => function(alloc, stack, FunctionExpr::Fused(own), count),
-        Word::Cast(kind, options) => cast(alloc, stack, kind, options),
+        Word::Cast(value_type, options) => cast(alloc, stack, value_type, options),
         Word::Ternary => ternary(alloc, stack),
         Word::Filter => filter(alloc, stack),
         Word::Kernel => kernel(alloc, stack),
@@ -121,17 +122,26 @@ fn node_of(alloc: Global, stack: &mut Vec<Expr>, word: Word) -> Result<Expr, Pla
     }
 }
 
+// The number as a literal of the type.
+fn typed(value: i128, value_type: ValueType) -> Option<LiteralValue> {
+    match value_type {
+        ValueType::UInt8 => Some(LiteralValue::UInt8(u8::try_from(value).ok()?)),
+        ValueType::UInt16 => Some(LiteralValue::UInt16(u16::try_from(value).ok()?)),
+        ValueType::UInt32 => Some(LiteralValue::UInt32(u32::try_from(value).ok()?)),
+        ValueType::UInt64 => Some(LiteralValue::UInt64(u64::try_from(value).ok()?)),
+        ValueType::Int8 => Some(LiteralValue::Int8(i8::try_from(value).ok()?)),
+        ValueType::Int16 => Some(LiteralValue::Int16(i16::try_from(value).ok()?)),
+        ValueType::Int32 => Some(LiteralValue::Int32(i32::try_from(value).ok()?)),
+        ValueType::Int64 => Some(LiteralValue::Int64(i64::try_from(value).ok()?)),
+        ValueType::Null | ValueType::Boolean | ValueType::String => None,
+    }
+}
+
 // A number before `:Int8` is a literal of this type, and one alone has no type.
 fn number_of(word: &str) -> Option<LiteralValue> {
-    match word.strip_suffix(":Int8") {
-        Some(digits) => match digits.parse::<i8>() {
-            Ok(value) => Some(LiteralValue::Int8(value)),
-            Err(_) => None,
-        },
-        None => match word.parse::<i128>() {
-            Ok(value) => Some(LiteralValue::Int(value)),
-            Err(_) => None,
-        },
+    match word.split_once(':') {
+        Some((digits, name)) => typed(digits.parse::<i128>().ok()?, type_named(name)?),
+        None => Some(LiteralValue::Int(word.parse::<i128>().ok()?)),
     }
 }
 
@@ -142,13 +152,21 @@ fn named(alloc: Global, stack: &mut Vec<Expr>, word: &str) -> Result<Expr, PlanE
     }
 }
 
+// A column is a series literal.
+fn leaf(alloc: Global, stack: &mut Vec<Expr>, word: &str) -> Result<Expr, PlanError> {
+    if word.ends_with(')') {
+        return Ok(Expr::Literal(LiteralValue::Series(read_column(alloc, word)?)));
+    }
+    match number_of(word) {
+        Some(value) => Ok(Expr::Literal(value)),
+        None => named(alloc, stack, word),
+    }
+}
+
 fn expr_of(alloc: Global, stack: &mut Vec<Expr>, text: &str) -> Result<Expr, PlanError> {
     match word_of(text) {
         Some(word) => node_of(alloc, stack, word),
-        None => match number_of(text) {
-            Some(value) => Ok(Expr::Literal(value)),
-            None => named(alloc, stack, text),
-        },
+        None => leaf(alloc, stack, text),
     }
 }
 

@@ -66,21 +66,54 @@ const NODES: &[(&str, Word)] = &[
     ("negate", Word::Negate),
     ("fma", Word::Fused(FusedOperator::MultiplyAdd, 3)),
     ("fma_two", Word::Fused(FusedOperator::MultiplyAdd, 2)),
-    ("to_Int8", Word::Cast(ValueType::Int8, CastOptions::Strict)),
-    (
-        "to_Boolean",
-        Word::Cast(ValueType::Boolean, CastOptions::Strict),
-    ),
-    (
-        "to_String",
-        Word::Cast(ValueType::String, CastOptions::Strict),
-    ),
+    ("fsm", Word::Fused(FusedOperator::SubMultiply, 3)),
+    ("fms", Word::Fused(FusedOperator::MultiplySub, 3)),
     ("if", Word::Ternary),
     ("filter", Word::Filter),
     ("kernel", Word::Kernel),
     ("min", Word::Min),
     ("explode", Word::Explode),
 ];
+
+const TYPES: &[(&str, ValueType)] = &[
+    ("Null", ValueType::Null),
+    ("Boolean", ValueType::Boolean),
+    ("String", ValueType::String),
+    ("UInt8", ValueType::UInt8),
+    ("UInt16", ValueType::UInt16),
+    ("UInt32", ValueType::UInt32),
+    ("UInt64", ValueType::UInt64),
+    ("Int8", ValueType::Int8),
+    ("Int16", ValueType::Int16),
+    ("Int32", ValueType::Int32),
+    ("Int64", ValueType::Int64),
+];
+
+const CASTS: &[(&str, CastOptions)] = &[
+    ("to_", CastOptions::Strict),
+    ("as_", CastOptions::NonStrict),
+    ("wrap_", CastOptions::Overflowing),
+];
+
+/// The type of this name.
+pub fn type_named(text: &str) -> Option<ValueType> {
+    for entry in TYPES {
+        if entry.0 == text {
+            return Some(entry.1);
+        }
+    }
+    None
+}
+
+// A cast is the word of its options and the name of its type.
+fn cast(text: &str) -> Option<Word> {
+    for entry in CASTS {
+        if let Some(name) = text.strip_prefix(entry.0) {
+            return Some(Word::Cast(type_named(name)?, entry.1));
+        }
+    }
+    None
+}
 
 fn find(words: &[(&str, Word)], text: &str) -> Option<Word> {
     for entry in words {
@@ -106,7 +139,10 @@ pub fn word_of(text: &str) -> Option<Word> {
         Some(word) => Some(word),
         None => match operator(text) {
             Some(word) => Some(word),
-            None => find(NODES, text),
+            None => match find(NODES, text) {
+                Some(word) => Some(word),
+                None => cast(text),
+            },
         },
     }
 }

@@ -1,5 +1,6 @@
 //! Writing.
 
+use crate::columns::write_column;
 use px_expr::{Expr, ExprList, LiteralValue};
 use px_types::{
     BooleanFunction, CastOptions, DataType, FunctionExpr, FusedOperator, Operator, PlanError,
@@ -36,11 +37,14 @@ pub fn write_literal(
         LiteralValue::Boolean(true) => write_word(text, "true"),
         LiteralValue::Boolean(false) => write_word(text, "false"),
         LiteralValue::UInt8(value) => write_number(alloc, text, i128::from(*value), "UInt8"),
+        LiteralValue::UInt16(value) => write_number(alloc, text, i128::from(*value), "UInt16"),
         LiteralValue::UInt32(value) => write_number(alloc, text, i128::from(*value), "UInt32"),
         LiteralValue::UInt64(value) => write_number(alloc, text, i128::from(*value), "UInt64"),
         LiteralValue::Int8(value) => write_number(alloc, text, i128::from(*value), "Int8"),
+        LiteralValue::Int16(value) => write_number(alloc, text, i128::from(*value), "Int16"),
         LiteralValue::Int32(value) => write_number(alloc, text, i128::from(*value), "Int32"),
         LiteralValue::Int64(value) => write_number(alloc, text, i128::from(*value), "Int64"),
+        LiteralValue::Series(column) => write_column(alloc, text, column),
         _ => write_word(text, "other"),
     }
 }
@@ -58,8 +62,8 @@ pub fn write_cast(
         CastOptions::Overflowing => "wrap_",
     };
     match dtype.value_type() {
-        Some(kind) => {
-            let word = format!(in alloc; "{start}{kind:?}")?;
+        Some(value_type) => {
+            let word = format!(in alloc; "{start}{value_type:?}")?;
             write_word(text, word.as_str())
         }
         None => write_word(text, "other"),

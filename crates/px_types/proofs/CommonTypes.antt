@@ -6,32 +6,32 @@ use Rattle.std.specs.Prelude.{option_and_then}
 use Rattle.px_types.specs.declared.dtype.DataType.{out-DataType}
 use Rattle.px_types.specs.declared.value_type.ValueType.{ValueType}
 use Rattle.px_types.specs.declared.value_type.ValueType.TheVariants as value
-use Rattle.px_types.specs.ValueTypes.{Family, Nulls, Truths, Texts, Unsigned, Signed, family_of, type_of_family, common_family, dtype_of, value_type_of, common, common_dtype}
+use Rattle.px_types.specs.ValueTypes.{Family, Nulls, BooleanArray, StringArray, Unsigned, Signed, family_of, type_of_family, common_family, dtype_of, value_type_of, common, common_dtype}
 
 pub common_family-swaps : (a b : Family) → common_family a b ≡ common_family b a
 common_family-swaps Nulls Nulls = refl
-common_family-swaps Nulls Truths = refl
-common_family-swaps Nulls Texts = refl
+common_family-swaps Nulls BooleanArray = refl
+common_family-swaps Nulls StringArray = refl
 common_family-swaps Nulls (Unsigned n) = refl
 common_family-swaps Nulls (Signed n) = refl
-common_family-swaps Truths Nulls = refl
-common_family-swaps Truths Truths = refl
-common_family-swaps Truths Texts = refl
-common_family-swaps Truths (Unsigned n) = refl
-common_family-swaps Truths (Signed n) = refl
-common_family-swaps Texts Nulls = refl
-common_family-swaps Texts Truths = refl
-common_family-swaps Texts Texts = refl
-common_family-swaps Texts (Unsigned n) = refl
-common_family-swaps Texts (Signed n) = refl
+common_family-swaps BooleanArray Nulls = refl
+common_family-swaps BooleanArray BooleanArray = refl
+common_family-swaps BooleanArray StringArray = refl
+common_family-swaps BooleanArray (Unsigned n) = refl
+common_family-swaps BooleanArray (Signed n) = refl
+common_family-swaps StringArray Nulls = refl
+common_family-swaps StringArray BooleanArray = refl
+common_family-swaps StringArray StringArray = refl
+common_family-swaps StringArray (Unsigned n) = refl
+common_family-swaps StringArray (Signed n) = refl
 common_family-swaps (Unsigned m) Nulls = refl
-common_family-swaps (Unsigned m) Truths = refl
-common_family-swaps (Unsigned m) Texts = refl
+common_family-swaps (Unsigned m) BooleanArray = refl
+common_family-swaps (Unsigned m) StringArray = refl
 common_family-swaps (Unsigned m) (Unsigned n) = ap (λ k. Some (Unsigned k)) (max_comm m n)
 common_family-swaps (Unsigned m) (Signed n) = ap (λ k. Some (Signed k)) (max_comm (2 * m) n)
 common_family-swaps (Signed m) Nulls = refl
-common_family-swaps (Signed m) Truths = refl
-common_family-swaps (Signed m) Texts = refl
+common_family-swaps (Signed m) BooleanArray = refl
+common_family-swaps (Signed m) StringArray = refl
 common_family-swaps (Signed m) (Unsigned n) = ap (λ k. Some (Signed k)) (max_comm m (2 * n))
 common_family-swaps (Signed m) (Signed n) = ap (λ k. Some (Signed k)) (max_comm m n)
 

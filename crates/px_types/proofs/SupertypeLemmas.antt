@@ -9,8 +9,8 @@ use Rattle.px_types.specs.declared.dtype.DataType.TheFolds.{fold-roll-DataType}
 use Rattle.px_types.specs.declared.dtype.DataType.TheViews.{roll-DataType, roll-out-DataType}
 use Rattle.px_types.specs.declared.dtype.DataType.TheVariants as dtype
 use Rattle.px_types.specs.declared.dtype.Field.{Field}
-use Rattle.px_types.specs.declared.kinds.UnknownKind.{UnknownKind}
-use Rattle.px_types.specs.declared.kinds.UnknownKind.TheVariants as unknown
+use Rattle.px_types.specs.declared.type_parts.UnknownKind.{UnknownKind}
+use Rattle.px_types.specs.declared.type_parts.UnknownKind.TheVariants as unknown
 use Rattle.px_types.specs.declared.value_type.ValueType.{ValueType}
 use Rattle.px_types.specs.declared.value_type.ValueType.TheVariants as value
 use Rattle.px_types.specs.declared.class.Class.{Class}

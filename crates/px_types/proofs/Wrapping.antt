@@ -5,7 +5,7 @@ use mir.Val.{bits}
 use Rattle.std.proofs.lemmas.Int.{ints, of_z-to_z, int_wrap-add_left, int_wrap-add_right, int_wrap-sub_right}
 use Rattle.std.proofs.lemmas.Nat.{pow_pos}
 use Rattle.px_types.specs.Integers.{into}
-use Rattle.px_types.specs.Residues.{residue_within}
+use Rattle.px_types.proofs.Residues.{residue_within}
 use Rattle.px_types.specs.declared.value_type.ValueType.{ValueType}
 use Rattle.px_types.specs.declared.value_type.ValueType.TheVariants.{Null, Boolean, String, UInt8, UInt16, UInt32, UInt64, Int8, Int16, Int32, Int64}
 
@@ -52,7 +52,7 @@ residue-add_left w a b =
     let r = int_rem_euclid a (pos (2 ^ bits w)) in
     same_residue w (r +ℤ b) (a +ℤ b) (sym (int_wrap-add_left w r b) ∙ ap (λ z. int_wrap w (z +ℤ b)) (wrapped_residue w a) ∙ int_wrap-add_left w a b)
 
-pub into-add_right : (kind : ValueType) (a b : ℤ) → into kind (a +ℤ into kind b) ≡ into kind (a +ℤ b)
+pub into-add_right : (value_type : ValueType) (a b : ℤ) → into value_type (a +ℤ into value_type b) ≡ into value_type (a +ℤ b)
 into-add_right UInt8 a b = residue-add_right w8 a b
 into-add_right UInt16 a b = residue-add_right w16 a b
 into-add_right UInt32 a b = residue-add_right w32 a b
@@ -65,7 +65,7 @@ into-add_right Null a b = refl
 into-add_right Boolean a b = refl
 into-add_right String a b = refl
 
-pub into-add_left : (kind : ValueType) (a b : ℤ) → into kind (into kind a +ℤ b) ≡ into kind (a +ℤ b)
+pub into-add_left : (value_type : ValueType) (a b : ℤ) → into value_type (into value_type a +ℤ b) ≡ into value_type (a +ℤ b)
 into-add_left UInt8 a b = residue-add_left w8 a b
 into-add_left UInt16 a b = residue-add_left w16 a b
 into-add_left UInt32 a b = residue-add_left w32 a b
@@ -78,7 +78,7 @@ into-add_left Null a b = refl
 into-add_left Boolean a b = refl
 into-add_left String a b = refl
 
-pub into-sub_right : (kind : ValueType) (a b : ℤ) → into kind (a -ℤ into kind b) ≡ into kind (a -ℤ b)
+pub into-sub_right : (value_type : ValueType) (a b : ℤ) → into value_type (a -ℤ into value_type b) ≡ into value_type (a -ℤ b)
 into-sub_right UInt8 a b = residue-sub_right w8 a b
 into-sub_right UInt16 a b = residue-sub_right w16 a b
 into-sub_right UInt32 a b = residue-sub_right w32 a b
@@ -91,5 +91,5 @@ into-sub_right Null a b = refl
 into-sub_right Boolean a b = refl
 into-sub_right String a b = refl
 
-pub into-sub_left : (kind : ValueType) (a b : ℤ) → into kind (into kind a -ℤ b) ≡ into kind (a -ℤ b)
-into-sub_left kind a b = into-add_left kind a (neg_ℤ b)
+pub into-sub_left : (value_type : ValueType) (a b : ℤ) → into value_type (into value_type a -ℤ b) ≡ into value_type (a -ℤ b)
+into-sub_left value_type a b = into-add_left value_type a (neg_ℤ b)

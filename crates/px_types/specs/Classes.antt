@@ -2,8 +2,8 @@
 use Rattle.std.specs.Prelude.{Bool, true, false, ◌||◌}
 use Rattle.px_types.specs.declared.dtype.DataType.{DataType, DataType-F, out-DataType}
 use Rattle.px_types.specs.declared.dtype.Field.{Field}
-use Rattle.px_types.specs.declared.kinds.UnknownKind.{UnknownKind}
-use Rattle.px_types.specs.declared.kinds.UnknownKind.TheVariants as unknown
+use Rattle.px_types.specs.declared.type_parts.UnknownKind.{UnknownKind}
+use Rattle.px_types.specs.declared.type_parts.UnknownKind.TheVariants as unknown
 use Rattle.px_types.specs.declared.class.Class.{Class}
 use Rattle.px_types.specs.declared.class.Class.TheVariants as class
 use Rattle.px_types.specs.declared.value_type.ValueType.{ValueType}
@@ -31,7 +31,7 @@ layer_class DataType-F.Int64 = class.Value value.Int64
 layer_class DataType-F.Int128 = class.Int128
 layer_class DataType-F.Float32 = class.Float32
 layer_class DataType-F.Float64 = class.Float64
-layer_class (DataType-F.Unknown kind) = unknown_class kind
+layer_class (DataType-F.Unknown value_type) = unknown_class value_type
 layer_class _ = class.Other
 
 -- what the rules read of a type
@@ -46,9 +46,9 @@ is_integer_value value.String = false
 is_integer_value _ = true
 
 -- `Boolean` or an integer type
-abbrev pub is_number : ValueType → Bool
-is_number value.Boolean = true
-is_number v = is_integer_value v
+abbrev pub is_boolean_or_integer : ValueType → Bool
+is_boolean_or_integer value.Boolean = true
+is_boolean_or_integer v = is_integer_value v
 
 -- `Boolean` or an integer type of at most 16 bits, of which `Float32` has each value
 abbrev pub is_narrow : ValueType → Bool

@@ -6,8 +6,8 @@ use Rattle.px_types.specs.declared.dtype.DataType.{DataType, out-DataType, DataT
 use Rattle.px_types.specs.declared.dtype.DataType.TheOpen.{Field-F}
 use Rattle.px_types.specs.declared.dtype.DataType.TheFolds.{fold-DataType, fold-Field}
 use Rattle.px_types.specs.declared.dtype.Field.{Field}
-use Rattle.px_types.specs.declared.kinds.UnknownKind.{UnknownKind}
-use Rattle.px_types.specs.declared.kinds.UnknownKind.TheVariants as unknown
+use Rattle.px_types.specs.declared.type_parts.UnknownKind.{UnknownKind}
+use Rattle.px_types.specs.declared.type_parts.UnknownKind.TheVariants as unknown
 
 -- the place of a type's variant among the variants
 abbrev pub layer_rank : {A B : Type 0} → DataType-F A B → ℕ
@@ -50,7 +50,7 @@ held_input (DataType-F.Datetime unit zone) = fed.option fed.str zone
 held_input (DataType-F.List inner) = inner
 held_input (DataType-F.Array inner width) = inner ++ fed.u64 width
 held_input (DataType-F.Struct fields) = flat_map (λ field. field) fields.entries
-held_input (DataType-F.Unknown kind) = unknown_input kind
+held_input (DataType-F.Unknown value_type) = unknown_input value_type
 held_input _ = []
 
 abbrev pub layer_input : DataType-F fed.HashWrites fed.HashWrites → fed.HashWrites

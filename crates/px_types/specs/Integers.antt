@@ -1,4 +1,4 @@
--- Whole numbers in the eight integer types.
+-- Integers in the eight integer types.
 use Rattle.std.specs.Prelude.{◌^◌, ℤ, pos, ◌≤ℤ◌, ◌<ℤ◌, FitsSigned}
 use Rattle.std.specs.Int.{int_wrap, int_rem_euclid, w8, w16, w32, w64}
 use Rattle.px_types.specs.declared.value_type.ValueType.{ValueType}

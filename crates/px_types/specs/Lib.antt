@@ -1,15 +1,5 @@
 pub mod Operators
 pub mod Integers
-pub mod Residues
-pub mod Rows
-pub mod Columns
-pub mod Bitwise
-pub mod Logic
-pub mod Comparisons
-pub mod Arithmetic
-pub mod Choices
-pub mod Casts
-pub mod Fused
 pub mod HashInputs
 pub mod AnyValues
 pub mod Classes
@@ -17,4 +7,3 @@ pub mod Laws
 pub mod Schemas
 pub mod Supertypes
 pub mod ValueTypes
-pub mod Frames

@@ -9,12 +9,12 @@ use Rattle.px_types.specs.declared.dtype.DataType.{DataType, DataType-F, out-Dat
 use Rattle.px_types.specs.declared.dtype.DataType.TheVariants as dtype
 use Rattle.px_types.specs.declared.dtype.DataType.TheFolds.{fold-DataType}
 use Rattle.px_types.specs.declared.dtype.Field.{Field}
-use Rattle.px_types.specs.declared.kinds.UnknownKind.TheVariants as unknown
+use Rattle.px_types.specs.declared.type_parts.UnknownKind.TheVariants as unknown
 use Rattle.px_types.specs.declared.class.Class.{Class}
 use Rattle.px_types.specs.declared.class.Class.TheVariants as class
 use Rattle.px_types.specs.declared.value_type.ValueType.{ValueType}
 use Rattle.px_types.specs.declared.value_type.ValueType.TheVariants as value
-use Rattle.px_types.specs.Classes.{class_of, is_number, is_narrow}
+use Rattle.px_types.specs.Classes.{class_of, is_boolean_or_integer, is_narrow}
 use Rattle.px_types.specs.ValueTypes.{dtype_of, common_dtype, holds, default_type}
 
 -- a type, where the test holds
@@ -34,18 +34,18 @@ integer_beside false number v default = if number then common_of (Some v) defaul
 -- the lines of the table that read two types in this order, but those of two value types, of `Null` and of lists
 unfoldable pub line : Class → Class → Option DataType
 line class.Anything _ = Some (dtype.Unknown unknown.Any)
-line class.Int128 (class.Value v) = when (is_number v) dtype.Int128
-line class.Float32 (class.Value v) = if is_narrow v then Some dtype.Float32 else when (is_number v) dtype.Float64
+line class.Int128 (class.Value v) = when (is_boolean_or_integer v) dtype.Int128
+line class.Float32 (class.Value v) = if is_narrow v then Some dtype.Float32 else when (is_boolean_or_integer v) dtype.Float64
 line class.Float32 class.Int128 = Some dtype.Float64
 line class.Float32 class.Float64 = Some dtype.Float64
-line class.Float64 (class.Value v) = when (is_number v) dtype.Float64
+line class.Float64 (class.Value v) = when (is_boolean_or_integer v) dtype.Float64
 line class.Float64 class.Int128 = Some dtype.Float64
-line (class.Integer z) (class.Value v) = integer_beside (holds v z) (is_number v) v (default_type z)
+line (class.Integer z) (class.Value v) = integer_beside (holds v z) (is_boolean_or_integer v) v (default_type z)
 line (class.Integer z) class.Int128 = Some dtype.Int128
 line (class.Integer z) class.Float32 = Some dtype.Float32
 line (class.Integer z) class.Float64 = Some dtype.Float64
 line (class.Integer z) (class.Integer w) = common_of (default_type z) (default_type w)
-line class.Float (class.Value v) = when (is_number v) dtype.Float64
+line class.Float (class.Value v) = when (is_boolean_or_integer v) dtype.Float64
 line class.Float class.Int128 = Some dtype.Float64
 line class.Float class.Float32 = Some dtype.Float32
 line class.Float class.Float64 = Some dtype.Float64

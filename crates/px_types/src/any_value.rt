@@ -6,7 +6,7 @@ ghost use Rattle.px_types.specs.AnyValues.{materialized};
 use crate::dtype::DataType;
 use crate::value_type::{ValueType, default_type};
 
-/// A single value with its type, or a range of integers.
+/// A single value with its type, or a range of integers. The names are Polars'.
 #[derive(Drop)]
 pub enum AnyValue<'a> {
     Null,
@@ -29,8 +29,8 @@ pub enum AnyValue<'a> {
     },
 }
 
-/// An integer literal as a value of its default type, where it has one. The default types are our
-/// own.
+/// An integer literal as a value of its default type: the first of `Int32`, `Int64` and `UInt64`
+/// that has it, and None where none has it. The rule is our own.
 #[tactic(auto, unfolding(crate::specs::ValueTypes::default_type, crate::specs::ValueTypes::holds))]
 pub fn materialize_dyn_int(v: i128) -> Option<AnyValue<'static>>
     ensures value { result ≡ materialized v }

@@ -1,9 +1,9 @@
 //! What the rules about types read of a type.
 ghost use Rattle.std.specs.Prelude.{◌≡◌};
-ghost use Rattle.px_types.specs.Classes.{class_of, unknown_class, is_number, is_narrow, is_integer_value, is_unsigned_value, is_integer, is_unsigned_integer, is_float, is_primitive_numeric};
+ghost use Rattle.px_types.specs.Classes.{class_of, unknown_class, is_boolean_or_integer, is_narrow, is_integer_value, is_unsigned_value, is_integer, is_unsigned_integer, is_float, is_primitive_numeric};
 
 use crate::dtype::DataType;
-use crate::kinds::UnknownKind;
+use crate::type_parts::UnknownKind;
 use crate::value_type::ValueType;
 
 /// A type as the table of common types and the tests of types read it.
@@ -56,7 +56,7 @@ impl DataType {
             DataType::Int128 => Class::Int128,
             DataType::Float32 => Class::Float32,
             DataType::Float64 => Class::Float64,
-            DataType::Unknown(kind) => kind.class(),
+            DataType::Unknown(value_type) => value_type.class(),
             _ => Class::Other,
         }
     }
@@ -109,8 +109,8 @@ impl ValueType {
     }
 
     // Whether it is `Boolean` or an integer type.
-    pub(crate) fn is_number(self) -> bool
-        ensures { result ≡ is_number self }
+    pub(crate) fn is_boolean_or_integer(self) -> bool
+        ensures { result ≡ is_boolean_or_integer self }
     {
         match self {
             ValueType::Null | ValueType::String => false,

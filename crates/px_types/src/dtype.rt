@@ -2,7 +2,7 @@
 ghost use Rattle.std.specs.Prelude.{◌≡◌, IfSome};
 ghost use Rattle.px_types.specs.ValueTypes.{value_type_of, dtype_of};
 
-use crate::kinds::{TimeUnit, UnknownKind};
+use crate::type_parts::{TimeUnit, UnknownKind};
 use crate::value_type::ValueType;
 use px_base::{Boxed, List, SmallStr};
 
@@ -30,10 +30,11 @@ pub enum DataType {
     Time,
     /// A point in time, with the name of its time zone.
     Datetime(TimeUnit, Option<SmallStr>),
+    /// A span of time.
     Duration(TimeUnit),
     Categorical,
     List(Boxed<DataType>),
-    /// Lists of one width.
+    /// Lists of one width, which is their number of elements.
     Array(Boxed<DataType>, u64),
     Struct(FieldList),
     Unknown(UnknownKind),
@@ -54,7 +55,7 @@ pub type FieldList = List<Field>;
 pub type TypeList = List<DataType>;
 
 impl DataType {
-    /// The value type of the same name, where there is one.
+    /// The value type of the same name, and None where there is none.
     pub fn value_type(&self) -> Option<ValueType>
         ensures value { result ≡ value_type_of self.now }
         ensures same { IfSome result (λ value. dtype_of value ≡ self.now) }
@@ -84,12 +85,14 @@ impl Field {
         Field { name, dtype }
     }
 
+    /// The name.
     pub fn name(&self) -> &SmallStr
         ensures { result.now ≡ self.now.name }
     {
         &self.name
     }
 
+    /// The type.
     pub fn dtype(&self) -> &DataType
         ensures { result.now ≡ self.now.dtype }
     {

@@ -33,7 +33,7 @@ fn clone_dtype(alloc: Global, dtype: &DataType) -> Result<DataType, PlanError>
         DataType::List(inner) => Ok(DataType::List(clone_boxed(alloc, inner)?)),
         DataType::Array(inner, width) => Ok(DataType::Array(clone_boxed(alloc, inner)?, *width)),
         DataType::Struct(fields) => Ok(DataType::Struct(clone_fields(alloc, fields)?)),
-        DataType::Unknown(kind) => Ok(DataType::Unknown(*kind)),
+        DataType::Unknown(value_type) => Ok(DataType::Unknown(*value_type)),
     }
 }
 
@@ -74,7 +74,7 @@ fn clone_fields(alloc: Global, fields: &FieldList) -> Result<FieldList, PlanErro
 }
 
 impl DataType {
-    /// An equal type.
+    /// An equal type. The only error is out of memory.
     pub fn try_clone(&self, alloc: Global) -> Result<DataType, PlanError>
         ensures { GivesOrMemory result self.now }
     {
@@ -83,7 +83,7 @@ impl DataType {
 }
 
 impl Field {
-    /// An equal field.
+    /// An equal field. The only error is out of memory.
     pub fn try_clone(&self, alloc: Global) -> Result<Field, PlanError>
         ensures { GivesOrMemory result self.now }
     {

@@ -5,16 +5,17 @@ ghost use Rattle.px_base.specs.Answer.{GivesOrMemory};
 use px_base::PlanError;
 use std::alloc::Global;
 
-/// A function that answers truth values, or that takes them apart.
+/// A function that answers Booleans, or that takes them apart.
 #[derive(Clone, Copy, Debug, PartialEq, Eq, Hash)]
 pub enum BooleanFunction {
     IsNull,
     IsNotNull,
-    /// The opposite truth value, or every bit turned.
+    /// The negation of a Boolean, or the complement of an integer.
     Not,
 }
 
-/// A product and a sum or a difference in one step: `x + y * z`, `x - y * z` and `x * y - z`.
+/// A product and a sum or a difference in one step: `x + y * z`, `x - y * z` and `x * y - z`. They
+/// are Polars' `fma`, `fsm` and `fms`.
 #[derive(Clone, Copy, Debug, PartialEq, Eq, Hash)]
 pub enum FusedOperator {
     MultiplyAdd,
@@ -66,7 +67,7 @@ impl Eq for FunctionExpr {
 }
 
 impl FunctionExpr {
-    /// An equal function.
+    /// An equal function. The only error is out of memory.
     pub fn try_clone(&self, _alloc: Global) -> Result<FunctionExpr, PlanError>
         ensures { GivesOrMemory result self.now }
     {

@@ -4,7 +4,7 @@ ghost use Rattle.std.specs.List.{fold};
 ghost use Rattle.px_types.specs.HashInputs.{rank, dtype_input, field_input, fields_input};
 
 use crate::dtype::{DataType, Field, FieldList};
-use crate::kinds::UnknownKind;
+use crate::type_parts::UnknownKind;
 use std::hash::{Hash, Hasher};
 
 #[cycle(hashing)]

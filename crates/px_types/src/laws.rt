@@ -1,7 +1,4 @@
-//! Laws of common types, of names and of columns, as functions that do nothing.
-ghost use Rattle.std.specs.Prelude.{IsTrue};
-ghost use Rattle.px_types.specs.Columns.{IsColumn, is_column};
-ghost use Rattle.px_types.specs.Rows.{TypedRows};
+//! Laws of common types and of names, as functions that do nothing.
 ghost use Rattle.px_types.specs.Laws.{IsCommutative, IsIdempotent, HasNullAsNeutral, SupertypeIsCommutative, SupertypeIsIdempotent, SupertypeHasNullAsNeutral, FirstRepeatedIsFound};
 
 /// The common type of value types does not depend on their order.
@@ -37,10 +34,4 @@ pub fn null_is_neutral_in_supertype()
 /// The first repeated name is that of the first place whose name is equal to one before it.
 pub fn first_repeated_is_found()
     ensures { FirstRepeatedIsFound }
-{}
-
-/// The test of columns is exact.
-pub fn columns_are_tested()
-    ensures passes { (v : TypedRows) → IsTrue (is_column v) → IsColumn v }
-    ensures column { (v : TypedRows) → IsColumn v → IsTrue (is_column v) }
 {}

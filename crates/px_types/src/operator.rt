@@ -2,7 +2,9 @@
 
 use std::fmt;
 
-/// An operator of two operands. `EqValidity` and `NotEqValidity` take two nulls for equal.
+/// An operator of two operands. `EqValidity` and `NotEqValidity` take two nulls for equal. `And`,
+/// `Or` and `Xor` go bit by bit on integers; `LogicalAnd` and `LogicalOr` take Booleans alone. The
+/// names are Polars'.
 #[derive(Clone, Copy, Debug, PartialEq, Eq, Hash)]
 pub enum Operator {
     Eq,

@@ -84,9 +84,13 @@ pub enum CastingRules {
 /// The options of a function.
 #[derive(Clone, Copy, Debug, PartialEq, Eq, Hash)]
 pub struct FunctionOptions {
+    /// To what the function is applied when rows are grouped.
     pub collect_groups: ApplyOptions,
+    /// What is known of it.
     pub flags: FunctionFlags,
+    /// The name that it is printed under.
     pub fmt_str: FmtName,
+    /// How its inputs are brought to one type, and None where nothing is said of it.
     pub cast_options: Option<CastingRules>,
 }
 

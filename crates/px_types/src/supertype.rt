@@ -3,23 +3,23 @@ ghost use Rattle.std.specs.Prelude.{◌≡◌, option_map};
 ghost use Rattle.std.specs.Option.{option_or};
 ghost use Rattle.px_base.specs.Answer.{GivesOrMemory, AnswersOrMemory};
 ghost use Rattle.px_types.specs.ValueTypes.{holds, default_type};
-ghost use Rattle.px_types.specs.Classes.{is_number};
+ghost use Rattle.px_types.specs.Classes.{is_boolean_or_integer};
 ghost use Rattle.px_types.specs.Supertypes.{common_of, integer_beside, line, common_unequal, common_flat, common_type, list_of, type_or_refusal};
 
 use crate::class::Class;
 use crate::dtype::DataType;
-use crate::kinds::UnknownKind;
+use crate::type_parts::UnknownKind;
 use crate::value_type::{ValueType, default_type};
 use px_base::{PlanError, boxed};
 use std::alloc::Global;
 
 // The common type of an integer literal without a type and a value type.
 fn integer_beside(v: i128, value: ValueType) -> Option<DataType>
-    ensures { result ≡ integer_beside (holds value v) (is_number value) value (default_type v) }
+    ensures { result ≡ integer_beside (holds value v) (is_boolean_or_integer value) value (default_type v) }
 {
     if value.holds(v) {
         Some(value.dtype())
-    } else if value.is_number() {
+    } else if value.is_boolean_or_integer() {
         value.common_dtype(default_type(v)?)
     } else {
         None
@@ -40,11 +40,10 @@ fn line(a: Class, b: Class) -> Option<DataType>
 {
     match (a, b) {
         (Class::Anything, _) => Some(DataType::Unknown(UnknownKind::Any)),
-        (Class::Int128, Class::Value(v)) if v.is_number() => Some(DataType::Int128),
+        (Class::Int128, Class::Value(v)) if v.is_boolean_or_integer() => Some(DataType::Int128),
         (Class::Float32, Class::Value(v)) if v.is_narrow() => Some(DataType::Float32),
-        (Class::Float32 | Class::Float64 | Class::Float, Class::Value(v)) if v.is_number() => {
-            Some(DataType::Float64)
-        }
+        (Class::Float32 | Class::Float64 | Class::Float, Class::Value(v))
+            if v.is_boolean_or_integer() => { Some(DataType::Float64) }
         (Class::Float32 | Class::Float64 | Class::Float, Class::Int128) => Some(DataType::Float64),
         (Class::Float32 | Class::Float, Class::Float64) => Some(DataType::Float64),
         (Class::Float, Class::Float32) => Some(DataType::Float32),
@@ -91,13 +90,16 @@ fn common(alloc: Global, a: &DataType, b: &DataType) -> Result<Option<DataType>,
     ensures { GivesOrMemory result (common_type a.now b.now) }
 {
     match (a, b) {
-        (DataType::List(a), DataType::List(b)) => listed(alloc, common(alloc, a.get(), b.get())?),
+        (DataType::List(a), DataType::List(b)) => list_dtype(
+            alloc,
+            common(alloc, a.get(), b.get())?,
+        ),
         _ => common_flat(alloc, a, b),
     }
 }
 
 // The list of a type, where there is one.
-fn listed(alloc: Global, inner: Option<DataType>) -> Result<Option<DataType>, PlanError>
+fn list_dtype(alloc: Global, inner: Option<DataType>) -> Result<Option<DataType>, PlanError>
     ensures { GivesOrMemory result (option_map list_of inner) }
 {
     match inner {
@@ -106,8 +108,8 @@ fn listed(alloc: Global, inner: Option<DataType>) -> Result<Option<DataType>, Pl
     }
 }
 
-/// The common type of two types, by our own table of common types. It refuses (`InvalidOperation`)
-/// types that have none.
+/// The common type of two types, by our own table in outline of Polars'. `InvalidOperation` where
+/// they have none. Else the only error is out of memory.
 pub fn try_get_supertype(alloc: Global, a: &DataType, b: &DataType) -> Result<DataType, PlanError>
     ensures { AnswersOrMemory (λ dtype. dtype) result (type_or_refusal (common_type a.now b.now)) }
 {

@@ -272,13 +272,15 @@ fn a_schema_has_its_fields_by_name_and_by_place(rt: HostRuntime) -> Result<(), F
     let schema = Schema::from_fields(alloc, &[a, b])?;
     assert!(rt; matches!(schema.get("b"), Some(DataType::String)));
     assert!(rt; schema.get("c").is_none());
-    assert!(rt; matches!(schema.field_at(0), Some((_, DataType::Int8))));
+    assert!(rt; matches!(schema.field_at(0), Some(("a", DataType::Int8))));
     assert!(rt; schema.field_at(2).is_none());
+    assert_eq!(rt; schema.place("b"), Some(1));
+    assert_eq!(rt; schema.place("c"), None);
     Ok(())
 }
 
 // The type of a literal's value, where the value is the literal.
-fn kind_of(literal: i128) -> &'static str {
+fn type_of(literal: i128) -> &'static str {
     match materialize_dyn_int(literal) {
         Some(AnyValue::Int32(v)) if i128::from(v) == literal => "i32",
         Some(AnyValue::Int64(v)) if i128::from(v) == literal => "i64",
@@ -304,8 +306,8 @@ const LITERALS: [(i128, &str); 11] = [
 
 #[test]
 fn literals_have_the_first_default_type_that_holds_them(rt: HostRuntime) {
-    for (literal, kind) in LITERALS {
-        assert_eq!(rt; kind_of(literal), kind, "at {literal}");
+    for (literal, value_type) in LITERALS {
+        assert_eq!(rt; type_of(literal), value_type, "at {literal}");
     }
 }
 

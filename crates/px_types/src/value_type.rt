@@ -53,8 +53,9 @@ impl ValueType {
         }
     }
 
-    /// The common type of two value types, where they have one. It is a value type, but for `UInt64`
-    /// with a signed type, which have `Float64`. The table is our own.
+    /// The common type of two value types. It is a value type, but for `UInt64` with a signed type,
+    /// which have `Float64`. None where one is `String` and the other neither `String` nor `Null`.
+    /// The table is our own.
     #[tactic(auto, unfolding(crate::specs::ValueTypes::common_dtype))]
     pub fn common_dtype(self, other: ValueType) -> Option<DataType>
         ensures { result ≡ common_dtype self other }
@@ -86,7 +87,7 @@ impl ValueType {
         }
     }
 
-    /// The common type of two value types, where it is a value type too.
+    /// The common type of two value types, and None where they have none or it is no value type.
     #[tactic(auto, unfolding(crate::specs::ValueTypes::common))]
     pub fn common(self, other: ValueType) -> Option<ValueType>
         ensures { result ≡ common self other }
@@ -94,7 +95,7 @@ impl ValueType {
         self.common_dtype(other)?.value_type()
     }
 
-    /// Whether the type holds the integer. A type that is no integer type holds none.
+    /// Whether the integer is one of the type's. A type that is no integer type has none.
     #[tactic(auto, unfolding(crate::specs::ValueTypes::holds))]
     pub fn holds(self, v: i128) -> bool
         ensures value { result ≡ holds self v }
@@ -114,8 +115,8 @@ impl ValueType {
     }
 }
 
-/// The default type of an integer literal: the first of `Int32`, `Int64` and `UInt64` that holds it.
-/// The rule is our own.
+/// The default type of an integer literal: the first of `Int32`, `Int64` and `UInt64` that has it,
+/// and None where none has it. The rule is our own.
 #[tactic(auto, unfolding(crate::specs::ValueTypes::default_type))]
 pub fn default_type(v: i128) -> Option<ValueType>
     ensures { result ≡ default_type v }

@@ -8,7 +8,7 @@ use Rattle.px_expr.specs.Tree.{tree_of}
 use Rattle.px_expr.specs.declared.expr.AggExpr.TheVariants as agg
 use Rattle.px_meaning.specs.Check as check
 use Rattle.px_meaning.specs.Check.{found}
-use Rattle.px_check.specs.Found.{seen}
+use Rattle.px_coercion.specs.Found.{seen}
 use Rattle.px_check.proofs.Refused.{refused-Gather, refused-Slice, refused-Filter, agg_refused, parts-Min, parts-Max, parts-Median, parts-NUnique, parts-First, parts-Last, parts-Mean, parts-Implode, parts-Count, parts-Sum, parts-AggGroups, parts-Std, parts-Var, parts-Quantile}
 use Rattle.px_check.proofs.check.+check.Goals as goal
 

@@ -4,7 +4,8 @@ use Rattle.px_expr.specs.declared.expr.AggExpr.{size-AggExpr}
 use Rattle.px_expr.specs.Tree.{tree_of}
 use Rattle.px_expr.specs.Options.{options_of}
 use Rattle.px_expr.specs.Plan.{catalog_of}
-use Rattle.px_check.specs.Found.{seen, options_in, found_all, found_after}
+use Rattle.px_coercion.specs.Found.{seen, options_in}
+use Rattle.px_check.specs.Inputs.{found_all, found_after}
 use Rattle.px_check.proofs.check.+check.Given as goal
 
 -- the answer is the inputs so far, and then those that are left

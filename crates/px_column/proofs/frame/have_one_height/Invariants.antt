@@ -1,7 +1,7 @@
 use Rattle.std.proofs.Common.{◌≡◌, ◌==◌, drop}
 use Rattle.std.specs.List.{list_all}
-use Rattle.px_types.specs.Columns.{are_columns}
-use Rattle.px_types.specs.Frames.{heights}
+use Rattle.px_semantics.specs.Columns.{are_columns}
+use Rattle.px_semantics.specs.Frames.{heights}
 use Rattle.px_column.proofs.frame.have_one_height.Given as goal
 
 -- the answer is that of the columns that are left

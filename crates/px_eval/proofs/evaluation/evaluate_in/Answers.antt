@@ -2,7 +2,7 @@ use Rattle.std.proofs.Common.{refl}
 use Rattle.px_expr.specs.Kernel.{all_kernels}
 use Rattle.px_rules.specs.Plan.{places}
 use Rattle.px_eval.specs.Own.{frame_catalog}
-use Rattle.px_eval.proofs.Fills.{is_some_of}
+use Rattle.px_eval.proofs.Lists.{is_some_of}
 use Rattle.px_eval.proofs.Columns.{checked_at, denoted_trees, list_error, complete_error, evaluated_ok, evaluated_err, evaluated_complete}
 use Rattle.px_eval.proofs.evaluation.evaluate_in.Goals as goal
 

@@ -1,6 +1,6 @@
 use Rattle.px_rules.specs.Plan.{places}
-use Rattle.px_eval.proofs.Roots.{Rooted}
+use Rattle.px_eval.proofs.Fills.{Filled}
 use Rattle.px_eval.proofs.filling.fill_all.Given as goal
 
-abbrev pub invariant-loop-i : goal.invariant-loop-i
-invariant-loop-i g l = Rooted (g.K.Kernels.definitions l.kernels) l.frame l.arena (places l.roots) l.i l.table l.initial.steps l.steps
+abbrev pub invariant-loop-position : goal.invariant-loop-position
+invariant-loop-position g l = Filled (g.K.Kernels.definitions l.kernels) l.frame l.arena (places l.order.places.items) l.order.needed.items l.position l.table l.initial.steps l.steps

@@ -1,7 +1,8 @@
 use Rattle.std.proofs.Common.{◌≡◌, ◌∙◌, sym, ap, Some, None}
 use Rattle.std.specs.Option.{option_copied}
-use Rattle.px_types.specs.Frames.{column_named}
-use Rattle.px_eval.proofs.Single.{outside, binary_case, cast_case, ternary_case, alias_case, column_case, column_there, literal_typed, literal_case, shared_ok, owned_ok, owned_err}
+use Rattle.px_semantics.specs.Frames.{column_named}
+use Rattle.px_kernels.specs.Buffers.{values_of}
+use Rattle.px_eval.proofs.Single.{outside, binary_case, cast_case, ternary_case, alias_case, column_case, column_there, literal_typed, literal_case, shared_ok, given_err, owned_ok, owned_err}
 use Rattle.px_eval.proofs.own.own_rows.Goals as goal
 
 pub share-requires : goal.share-requires
@@ -19,6 +20,7 @@ pub returns-in-Some-clause-ok : goal.returns-in-Some-clause-ok
 returns-in-Some-clause-ok g c =
     let e : column_named c.args.frame.now c.as_str.result.now ≡ Some c.in-Some.column.now = sym c.column.ensures ∙ ap option_copied c.in-Some.is in
     column_case (g.K.Kernels.definitions c.args.kernels.now) c.args.frame.now c.requires.fits c.args.table.now c.args.expr.now c.in-Column.name c.in-Some.column.now c.in-Column.is c.requires.ready (ap (column_named c.args.frame.now) (sym c.as_str.ensures) ∙ e)
+    ∙ ap Some (sym c.from_column.ensures)
 
 pub literal-requires : goal.literal-requires
 literal-requires g c = literal_typed (g.K.Kernels.definitions c.args.kernels.now) c.args.frame.now c.requires.fits c.args.table.now c.args.expr.now c.in-Literal.value c.in-Literal.is c.requires.ready
@@ -45,43 +47,42 @@ pub unreachable-requires-in-Len : goal.unreachable-requires-in-Len
 unreachable-requires-in-Len g c = outside (g.K.Kernels.definitions c.args.kernels.now) c.args.frame.now c.requires.fits c.args.table.now c.args.expr.now _ c.in-Len.is tt c.requires.ready
 
 pub binary-requires : goal.binary-requires
-binary-requires g c = let case = binary_case (g.K.Kernels.definitions c.args.kernels.now) c.args.frame.now c.requires.fits c.args.table.now c.args.expr.now c.in-BinaryExpr.left c.in-BinaryExpr.right c.in-BinaryExpr.op c.at-a.result.now.values c.at-b.result.now.values c.in-BinaryExpr.is c.requires.ready c.at-a.ensures c.at-b.ensures in case.1
-
-pub cast_column-requires : goal.cast_column-requires
-cast_column-requires g c = let case = cast_case (g.K.Kernels.definitions c.args.kernels.now) c.args.frame.now c.requires.fits c.args.table.now c.args.expr.now c.in-Cast.input c.in-Cast.dtype c.in-Cast.options c.at-from.result.now.values c.in-Cast.is c.requires.ready c.at-from.ensures in case.1
+binary-requires g c = let case = binary_case (g.K.Kernels.definitions c.args.kernels.now) c.args.frame.now c.requires.fits c.args.table.now c.args.expr.now c.in-BinaryExpr.left c.in-BinaryExpr.right c.in-BinaryExpr.op (values_of c.at-a.result.now) (values_of c.at-b.result.now) c.in-BinaryExpr.is c.requires.ready c.at-a.ensures c.at-b.ensures in case.1
 
 pub choose-requires-clause-mask : goal.choose-requires-clause-mask
-choose-requires-clause-mask g c = let case = ternary_case (g.K.Kernels.definitions c.args.kernels.now) c.args.frame.now c.requires.fits c.args.table.now c.args.expr.now c.in-Ternary.predicate c.in-Ternary.truthy c.in-Ternary.falsy c.at-mask.result.now.values c.at-first.result.now.values c.at-second.result.now.values c.in-Ternary.is c.requires.ready c.at-mask.ensures c.at-first.ensures c.at-second.ensures in case.1.mask
+choose-requires-clause-mask g c = let case = ternary_case (g.K.Kernels.definitions c.args.kernels.now) c.args.frame.now c.requires.fits c.args.table.now c.args.expr.now c.in-Ternary.predicate c.in-Ternary.truthy c.in-Ternary.falsy (values_of c.at-mask.result.now) (values_of c.at-first.result.now) (values_of c.at-second.result.now) c.in-Ternary.is c.requires.ready c.at-mask.ensures c.at-first.ensures c.at-second.ensures in case.1.mask
 
 pub choose-requires-clause-same : goal.choose-requires-clause-same
-choose-requires-clause-same g c = let case = ternary_case (g.K.Kernels.definitions c.args.kernels.now) c.args.frame.now c.requires.fits c.args.table.now c.args.expr.now c.in-Ternary.predicate c.in-Ternary.truthy c.in-Ternary.falsy c.at-mask.result.now.values c.at-first.result.now.values c.at-second.result.now.values c.in-Ternary.is c.requires.ready c.at-mask.ensures c.at-first.ensures c.at-second.ensures in case.1.same
+choose-requires-clause-same g c = let case = ternary_case (g.K.Kernels.definitions c.args.kernels.now) c.args.frame.now c.requires.fits c.args.table.now c.args.expr.now c.in-Ternary.predicate c.in-Ternary.truthy c.in-Ternary.falsy (values_of c.at-mask.result.now) (values_of c.at-first.result.now) (values_of c.at-second.result.now) c.in-Ternary.is c.requires.ready c.at-mask.ensures c.at-first.ensures c.at-second.ensures in case.1.same
 
 pub returns-in-BinaryExpr-clause-ok : goal.returns-in-BinaryExpr-clause-ok
 returns-in-BinaryExpr-clause-ok g c =
-    let case = binary_case (g.K.Kernels.definitions c.args.kernels.now) c.args.frame.now c.requires.fits c.args.table.now c.args.expr.now c.in-BinaryExpr.left c.in-BinaryExpr.right c.in-BinaryExpr.op c.at-a.result.now.values c.at-b.result.now.values c.in-BinaryExpr.is c.requires.ready c.at-a.ensures c.at-b.ensures in
+    let case = binary_case (g.K.Kernels.definitions c.args.kernels.now) c.args.frame.now c.requires.fits c.args.table.now c.args.expr.now c.in-BinaryExpr.left c.in-BinaryExpr.right c.in-BinaryExpr.op (values_of c.at-a.result.now) (values_of c.at-b.result.now) c.in-BinaryExpr.is c.requires.ready c.at-a.ensures c.at-b.ensures in
     owned_ok (g.K.Kernels.definitions c.args.kernels.now) c.args.frame.now c.requires.fits c.args.table.now c.args.expr.now c.owned.result c.binary.result _ _ c.owned.ensures c.binary.ensures case.0
 
 pub returns-in-BinaryExpr-clause-err : goal.returns-in-BinaryExpr-clause-err
 returns-in-BinaryExpr-clause-err g c =
-    let case = binary_case (g.K.Kernels.definitions c.args.kernels.now) c.args.frame.now c.requires.fits c.args.table.now c.args.expr.now c.in-BinaryExpr.left c.in-BinaryExpr.right c.in-BinaryExpr.op c.at-a.result.now.values c.at-b.result.now.values c.in-BinaryExpr.is c.requires.ready c.at-a.ensures c.at-b.ensures in
+    let case = binary_case (g.K.Kernels.definitions c.args.kernels.now) c.args.frame.now c.requires.fits c.args.table.now c.args.expr.now c.in-BinaryExpr.left c.in-BinaryExpr.right c.in-BinaryExpr.op (values_of c.at-a.result.now) (values_of c.at-b.result.now) c.in-BinaryExpr.is c.requires.ready c.at-a.ensures c.at-b.ensures in
     owned_err (g.K.Kernels.definitions c.args.kernels.now) c.args.frame.now c.requires.fits c.args.table.now c.args.expr.now c.owned.result c.binary.result _ _ c.requires.ready c.owned.ensures c.binary.ensures case.0
-
-pub returns-in-Cast-clause-ok : goal.returns-in-Cast-clause-ok
-returns-in-Cast-clause-ok g c =
-    let case = cast_case (g.K.Kernels.definitions c.args.kernels.now) c.args.frame.now c.requires.fits c.args.table.now c.args.expr.now c.in-Cast.input c.in-Cast.dtype c.in-Cast.options c.at-from.result.now.values c.in-Cast.is c.requires.ready c.at-from.ensures in
-    owned_ok (g.K.Kernels.definitions c.args.kernels.now) c.args.frame.now c.requires.fits c.args.table.now c.args.expr.now c.owned-in-Cast.result c.cast_column.result _ _ c.owned-in-Cast.ensures c.cast_column.ensures case.0
-
-pub returns-in-Cast-clause-err : goal.returns-in-Cast-clause-err
-returns-in-Cast-clause-err g c =
-    let case = cast_case (g.K.Kernels.definitions c.args.kernels.now) c.args.frame.now c.requires.fits c.args.table.now c.args.expr.now c.in-Cast.input c.in-Cast.dtype c.in-Cast.options c.at-from.result.now.values c.in-Cast.is c.requires.ready c.at-from.ensures in
-    owned_err (g.K.Kernels.definitions c.args.kernels.now) c.args.frame.now c.requires.fits c.args.table.now c.args.expr.now c.owned-in-Cast.result c.cast_column.result _ _ c.requires.ready c.owned-in-Cast.ensures c.cast_column.ensures case.0
 
 pub returns-in-Ternary-clause-ok : goal.returns-in-Ternary-clause-ok
 returns-in-Ternary-clause-ok g c =
-    let case = ternary_case (g.K.Kernels.definitions c.args.kernels.now) c.args.frame.now c.requires.fits c.args.table.now c.args.expr.now c.in-Ternary.predicate c.in-Ternary.truthy c.in-Ternary.falsy c.at-mask.result.now.values c.at-first.result.now.values c.at-second.result.now.values c.in-Ternary.is c.requires.ready c.at-mask.ensures c.at-first.ensures c.at-second.ensures in
+    let case = ternary_case (g.K.Kernels.definitions c.args.kernels.now) c.args.frame.now c.requires.fits c.args.table.now c.args.expr.now c.in-Ternary.predicate c.in-Ternary.truthy c.in-Ternary.falsy (values_of c.at-mask.result.now) (values_of c.at-first.result.now) (values_of c.at-second.result.now) c.in-Ternary.is c.requires.ready c.at-mask.ensures c.at-first.ensures c.at-second.ensures in
     owned_ok (g.K.Kernels.definitions c.args.kernels.now) c.args.frame.now c.requires.fits c.args.table.now c.args.expr.now c.owned-in-Ternary.result c.choose.result _ _ c.owned-in-Ternary.ensures c.choose.ensures case.0
 
 pub returns-in-Ternary-clause-err : goal.returns-in-Ternary-clause-err
 returns-in-Ternary-clause-err g c =
-    let case = ternary_case (g.K.Kernels.definitions c.args.kernels.now) c.args.frame.now c.requires.fits c.args.table.now c.args.expr.now c.in-Ternary.predicate c.in-Ternary.truthy c.in-Ternary.falsy c.at-mask.result.now.values c.at-first.result.now.values c.at-second.result.now.values c.in-Ternary.is c.requires.ready c.at-mask.ensures c.at-first.ensures c.at-second.ensures in
+    let case = ternary_case (g.K.Kernels.definitions c.args.kernels.now) c.args.frame.now c.requires.fits c.args.table.now c.args.expr.now c.in-Ternary.predicate c.in-Ternary.truthy c.in-Ternary.falsy (values_of c.at-mask.result.now) (values_of c.at-first.result.now) (values_of c.at-second.result.now) c.in-Ternary.is c.requires.ready c.at-mask.ensures c.at-first.ensures c.at-second.ensures in
     owned_err (g.K.Kernels.definitions c.args.kernels.now) c.args.frame.now c.requires.fits c.args.table.now c.args.expr.now c.owned-in-Ternary.result c.choose.result _ _ c.requires.ready c.owned-in-Ternary.ensures c.choose.ensures case.0
+
+pub own_cast-requires-clause-filled : goal.own_cast-requires-clause-filled
+own_cast-requires-clause-filled g c = (cast_case (g.K.Kernels.definitions c.args.kernels.now) c.args.frame.now c.requires.fits c.args.table.now c.args.expr.now c.in-Cast.input c.in-Cast.dtype c.in-Cast.options c.in-Cast.is c.requires.ready).filled
+
+pub own_cast-requires-clause-castable : goal.own_cast-requires-clause-castable
+own_cast-requires-clause-castable g c = (cast_case (g.K.Kernels.definitions c.args.kernels.now) c.args.frame.now c.requires.fits c.args.table.now c.args.expr.now c.in-Cast.input c.in-Cast.dtype c.in-Cast.options c.in-Cast.is c.requires.ready).castable
+
+pub returns-in-Cast-clause-ok : goal.returns-in-Cast-clause-ok
+returns-in-Cast-clause-ok g c = shared_ok _ _ c.own_cast.result (cast_case (g.K.Kernels.definitions c.args.kernels.now) c.args.frame.now c.requires.fits c.args.table.now c.args.expr.now c.in-Cast.input c.in-Cast.dtype c.in-Cast.options c.in-Cast.is c.requires.ready).case.gives c.own_cast.ensures.ok
+
+pub returns-in-Cast-clause-err : goal.returns-in-Cast-clause-err
+returns-in-Cast-clause-err g c = given_err (g.K.Kernels.definitions c.args.kernels.now) c.args.frame.now c.requires.fits c.args.table.now c.args.expr.now c.own_cast.result _ _ c.requires.ready c.own_cast.ensures.err (cast_case (g.K.Kernels.definitions c.args.kernels.now) c.args.frame.now c.requires.fits c.args.table.now c.args.expr.now c.in-Cast.input c.in-Cast.dtype c.in-Cast.options c.in-Cast.is c.requires.ready).case

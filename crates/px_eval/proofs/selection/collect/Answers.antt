@@ -1,4 +1,4 @@
-use Rattle.std.proofs.Common.{◌≡◌, ◌∙◌, List, sym}
+use Rattle.std.proofs.Common.{◌∙◌, List, sym}
 use Rattle.px_arena.specs.declared.node.AExpr.{AExpr}
 use Rattle.px_arena.specs.declared.node.Node.{Node}
 use Rattle.px_expr.specs.Kernel.{all_kernels}

@@ -2,7 +2,7 @@ use Rattle.std.proofs.Common.{◌≡◌, ◌≤◌, ◌∙◌, List, [], ◌∷�
 use Rattle.px_expr.specs.Tree.{Tree, tree_of}
 use Rattle.px_rules.specs.Plan.{places}
 use Rattle.px_eval.specs.Evaluated.{DenoteTrees}
-use Rattle.px_eval.proofs.Roots.{in_roots, length_places}
+use Rattle.px_eval.proofs.Lists.{in_roots, length_places}
 use Rattle.px_eval.proofs.Columns.{nth_denotes, listed_more, take_whole, as_many}
 use Rattle.px_eval.proofs.selection.raise_all.Goals as goal
 

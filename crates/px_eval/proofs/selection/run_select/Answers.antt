@@ -1,5 +1,5 @@
-use Rattle.std.proofs.Common.{◌≡◌, ◌⊎◌, inl, inr, ◌+◌, ◌-◌, ◌≤◌, List, map, Ok, Err, refl, subst, arith}
-use Rattle.std.specs.Prelude.{IsOk, IsSome}
+use Rattle.std.proofs.Common.{◌-◌, ◌≤◌, List, map, refl, subst, arith}
+use Rattle.std.specs.Prelude.{IsOk}
 use Rattle.px_types.specs.declared.dtype.Field.{Field}
 use Rattle.px_expr.specs.Kernel.{all_kernels}
 use Rattle.px_expr.specs.Plan.{catalog_of}

@@ -1,53 +1,14 @@
-use Rattle.std.proofs.Common.{◌≡◌, ◌∙◌, sym, rules}
-use Rattle.std.proofs.lemmas.Result.{err_from_is_err_and}
-use denote.Enum.Bare.{same_true}
-use Rattle.px_types.specs.contracts.value_type.ValueType.{the_type}
-use Rattle.px_column.specs.ColumnOf.{kind_of, rows_of}
-use Rattle.px_kernels.proofs.CastRows.{gives_ok, same_kind}
+use Rattle.std.proofs.Common.{◌∙◌, sym}
+use Rattle.px_kernels.specs.Buffers.{values_of}
+use Rattle.px_kernels.proofs.CastRows.{cast_answer, cast_refusal}
 use Rattle.px_kernels.proofs.casts.cast_buffer.Goals as goal
 
-pub returns-then-eq-clause-rows : goal.returns-then-eq-clause-rows
-returns-then-eq-clause-rows c =
-    let same = same_true the_type (search rules) _ _ (sym c.if-eq.ensures) in
-    gives_ok c.try_clone.result _ _ c.try_clone.ensures
-    (same_kind c.args.options (kind_of c.args.a.now) c.args.to (rows_of c.args.a.now) (sym c.kind.ensures ∙ same) c.len.ensures.typed)
+pub returns-clause-rows : goal.returns-clause-rows
+returns-clause-rows c =
+    cast_answer c.args.options c.args.to.now (values_of c.args.a.now) c.in-Some.value_type c.cast_values.result (sym c.value_type.ensures.value ∙ c.in-Some.is)
+    c.cast_values.ensures.value_type c.cast_values.ensures.rows
 
-pub returns-in_err-integers-in-Int8-clause-err : goal.returns-in_err-integers-in-Int8-clause-err
-returns-in_err-integers-in-Int8-clause-err c =
-    let p = err_from_is_err_and c.from_residual-in_err-integers-in-Int8.result c.from_residual-in_err-integers-in-Int8.ensures.1 in
-    rw (p.1, p.2, c.in-Int8.is) c.in_err-integers-in-Int8.ensures.err
-
-pub returns-in_err-integers-in-Int16-clause-err : goal.returns-in_err-integers-in-Int16-clause-err
-returns-in_err-integers-in-Int16-clause-err c =
-    let p = err_from_is_err_and c.from_residual-in_err-integers-in-Int16.result c.from_residual-in_err-integers-in-Int16.ensures.1 in
-    rw (p.1, p.2, c.in-Int16.is) c.in_err-integers-in-Int16.ensures.err
-
-pub returns-in_err-integers-in-Int32-clause-err : goal.returns-in_err-integers-in-Int32-clause-err
-returns-in_err-integers-in-Int32-clause-err c =
-    let p = err_from_is_err_and c.from_residual-in_err-integers-in-Int32.result c.from_residual-in_err-integers-in-Int32.ensures.1 in
-    rw (p.1, p.2, c.in-Int32.is) c.in_err-integers-in-Int32.ensures.err
-
-pub returns-in_err-integers-in-Int64-clause-err : goal.returns-in_err-integers-in-Int64-clause-err
-returns-in_err-integers-in-Int64-clause-err c =
-    let p = err_from_is_err_and c.from_residual-in_err-integers-in-Int64.result c.from_residual-in_err-integers-in-Int64.ensures.1 in
-    rw (p.1, p.2, c.in-Int64.is) c.in_err-integers-in-Int64.ensures.err
-
-pub returns-in_err-integers-in-UInt8-clause-err : goal.returns-in_err-integers-in-UInt8-clause-err
-returns-in_err-integers-in-UInt8-clause-err c =
-    let p = err_from_is_err_and c.from_residual-in_err-integers-in-UInt8.result c.from_residual-in_err-integers-in-UInt8.ensures.1 in
-    rw (p.1, p.2, c.in-UInt8.is) c.in_err-integers-in-UInt8.ensures.err
-
-pub returns-in_err-integers-in-UInt16-clause-err : goal.returns-in_err-integers-in-UInt16-clause-err
-returns-in_err-integers-in-UInt16-clause-err c =
-    let p = err_from_is_err_and c.from_residual-in_err-integers-in-UInt16.result c.from_residual-in_err-integers-in-UInt16.ensures.1 in
-    rw (p.1, p.2, c.in-UInt16.is) c.in_err-integers-in-UInt16.ensures.err
-
-pub returns-in_err-integers-in-UInt32-clause-err : goal.returns-in_err-integers-in-UInt32-clause-err
-returns-in_err-integers-in-UInt32-clause-err c =
-    let p = err_from_is_err_and c.from_residual-in_err-integers-in-UInt32.result c.from_residual-in_err-integers-in-UInt32.ensures.1 in
-    rw (p.1, p.2, c.in-UInt32.is) c.in_err-integers-in-UInt32.ensures.err
-
-pub returns-in_err-integers-in-UInt64-clause-err : goal.returns-in_err-integers-in-UInt64-clause-err
-returns-in_err-integers-in-UInt64-clause-err c =
-    let p = err_from_is_err_and c.from_residual-in_err-integers-in-UInt64.result c.from_residual-in_err-integers-in-UInt64.ensures.1 in
-    rw (p.1, p.2, c.in-UInt64.is) c.in_err-integers-in-UInt64.ensures.err
+pub returns-clause-err : goal.returns-clause-err
+returns-clause-err c =
+    cast_refusal c.args.options c.args.to.now (values_of c.args.a.now) c.in-Some.value_type c.cast_values.result (sym c.value_type.ensures.value ∙ c.in-Some.is)
+    c.cast_values.ensures.err

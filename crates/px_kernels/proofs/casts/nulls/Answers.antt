@@ -1,6 +1,6 @@
-use Rattle.std.proofs.Common.{◌≡◌, ◌∙◌, ◌<◌, ◌≤◌, arith, refl, length, rules, tests}
-use Rattle.px_types.specs.Rows.{null_count}
-use Rattle.px_types.specs.declared.kinds.CastOptions.TheVariants.{Strict}
+use Rattle.std.proofs.Common.{◌≡◌, ◌<◌, arith, refl, length, rules}
+use Rattle.px_semantics.specs.Rows.{null_count}
+use Rattle.px_types.specs.declared.type_parts.CastOptions.TheVariants.{Strict}
 use Rattle.px_column.specs.ColumnOf.{rows_of}
 use Rattle.px_kernels.proofs.CastRows.{void_lost, void_gives}
 use Rattle.px_kernels.proofs.casts.nulls.Goals.{else-eq-via-then-eq+else-null_count-len, else-eq-via-else-eq}

@@ -1,6 +1,6 @@
 use Rattle.std.proofs.Common.{◌∙◌}
 use Rattle.std.proofs.lemmas.Result.{IfOk-weaker}
-use Rattle.px_types.specs.Comparisons.{equal}
+use Rattle.px_semantics.specs.Comparisons.{equal}
 use Rattle.px_column.specs.ColumnOf.{rows_of}
 use Rattle.px_kernels.proofs.TestRows.{not_tests}
 use Rattle.px_kernels.proofs.comparison.differ_rows.Goals as goal

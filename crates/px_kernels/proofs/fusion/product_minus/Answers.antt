@@ -1,27 +1,27 @@
 use Rattle.std.proofs.Common.{◌∙◌, sym, ap}
 use Rattle.std.proofs.lemmas.Result.{IfOk-weaker, IfErr-weaker}
-use Rattle.px_types.specs.Arithmetic.{arith_row}
-use Rattle.px_types.specs.Rows.{row_by_row}
+use Rattle.px_semantics.specs.Arithmetic.{arith_row}
+use Rattle.px_semantics.specs.Rows.{elementwise}
 use Rattle.px_types.specs.declared.operator.Operator.TheVariants.{Minus}
-use Rattle.px_column.specs.ColumnOf.{kind_of, rows_of}
+use Rattle.px_column.specs.ColumnOf.{type_of, rows_of}
 use Rattle.px_kernels.proofs.FormRows.{after_first, product_steps}
 use Rattle.px_kernels.proofs.KernelRows.{refused}
 use Rattle.px_kernels.proofs.fusion.product_minus.Goals as goal
 
 pub returns-clause-rows : goal.returns-clause-rows
 returns-clause-rows c =
-    let k = kind_of c.args.a.now in
+    let k = type_of c.args.a.now in
     let zs = rows_of c.args.c.now in
     let law = product_steps k (rows_of c.args.a.now) (rows_of c.args.b.now) zs in
-    let as_first = ap (λ k. row_by_row (arith_row Minus k) (rows_of c.in_ok-product.product) zs) c.in_ok-product.ensures.kind in
-    let step = as_first ∙ after_first (λ p. row_by_row (arith_row Minus k) p zs) _ _ (rows_of c.in_ok-product.product) law c.in_ok-product.ensures.rows in
+    let as_first = ap (λ k. elementwise (arith_row Minus k) (rows_of c.in_ok-product.product) zs) c.in_ok-product.ensures.value_type in
+    let step = as_first ∙ after_first (λ p. elementwise (arith_row Minus k) p zs) _ _ (rows_of c.in_ok-product.product) law c.in_ok-product.ensures.rows in
     IfOk-weaker c.ring_buffers-2.result _ _ (λ r e. e ∙ step) c.ring_buffers-2.ensures.rows
 
 pub returns-clause-err : goal.returns-clause-err
 returns-clause-err c =
-    let k = kind_of c.args.a.now in
+    let k = type_of c.args.a.now in
     let zs = rows_of c.args.c.now in
     let law = product_steps k (rows_of c.args.a.now) (rows_of c.args.b.now) zs in
-    let as_first = ap (λ k. row_by_row (arith_row Minus k) (rows_of c.in_ok-product.product) zs) c.in_ok-product.ensures.kind in
-    let step = as_first ∙ after_first (λ p. row_by_row (arith_row Minus k) p zs) _ _ (rows_of c.in_ok-product.product) law c.in_ok-product.ensures.rows in
+    let as_first = ap (λ k. elementwise (arith_row Minus k) (rows_of c.in_ok-product.product) zs) c.in_ok-product.ensures.value_type in
+    let step = as_first ∙ after_first (λ p. elementwise (arith_row Minus k) p zs) _ _ (rows_of c.in_ok-product.product) law c.in_ok-product.ensures.rows in
     IfErr-weaker c.ring_buffers-2.result _ _ (λ e h. refused e (λ none. sym step ∙ none) h) c.ring_buffers-2.ensures.err

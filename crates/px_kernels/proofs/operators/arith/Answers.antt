@@ -1,21 +1,8 @@
 use Rattle.std.proofs.Common.{◌∙◌, sym}
-use Rattle.std.proofs.lemmas.Result.{err_from_is_err_and}
-use Rattle.px_kernels.proofs.KernelRows.{refused, arith_gives, arith_none}
 use Rattle.px_kernels.proofs.operators.arith.Goals as goal
 
 pub arith_buffers-requires-clause-integer : goal.arith_buffers-requires-clause-integer
-arith_buffers-requires-clause-integer c = rw c.buffer.ensures.kind c.requires.integer
+arith_buffers-requires-clause-integer c = rw c.buffer.ensures.value_type c.requires.integer
 
 pub arith_buffers-requires-clause-same : goal.arith_buffers-requires-clause-same
-arith_buffers-requires-clause-same c = c.buffer.ensures.kind ∙ c.requires.same ∙ sym c.buffer-2.ensures.kind
-
-pub returns-in_err-buffer-clause-err : goal.returns-in_err-buffer-clause-err
-returns-in_err-buffer-clause-err c =
-    let p = err_from_is_err_and c.from_residual.result c.from_residual.ensures.1 in
-    let e = rw (c.buffer.ensures.kind, c.buffer.ensures.rows, c.buffer-2.ensures.rows) at c.in_err-buffer.ensures.err in
-    rw (p.1, p.2) (refused _ (arith_none c.args.op c.args.a.now.values c.args.b.now.values) e)
-
-pub returns-clause-rows : goal.returns-clause-rows
-returns-clause-rows c =
-    let e = rw (c.buffer.ensures.kind, c.buffer.ensures.rows, c.buffer-2.ensures.rows) at c.in_ok-buffer.ensures.rows in
-    rw c.new.ensures (arith_gives c.args.op c.args.a.now.values c.args.b.now.values _ (c.in_ok-buffer.ensures.kind ∙ c.buffer.ensures.kind) e)
+arith_buffers-requires-clause-same c = c.buffer.ensures.value_type ∙ c.requires.same ∙ sym c.buffer-2.ensures.value_type

@@ -4,8 +4,8 @@ use Rattle.px_meaning.proofs.Steps.{Reaches-keeps, Reaches-same}
 use Rattle.px_meaning.proofs.Weights.{weight-reaches}
 use Rattle.px_meaning.proofs.laws.reached_trees_keep_meaning.Goals as goal
 
-pub returns-clause-kind : goal.returns-clause-kind
-returns-clause-kind g = λ c context t u way. (Reaches-keeps c context (IsRewrite c context) (IsRewrite-keeps c context) t u way).kind
+pub returns-clause-value_type : goal.returns-clause-value_type
+returns-clause-value_type g = λ c context t u way. (Reaches-keeps c context (IsRewrite c context) (IsRewrite-keeps c context) t u way).value_type
 
 pub returns-clause-same : goal.returns-clause-same
 returns-clause-same g = λ c context t u way frame fits. Reaches-same c context (IsRewrite c context) (IsRewrite-keeps c context) t u way frame fits

@@ -3,7 +3,7 @@ use Rattle.std.specs.Option.{option_copied}
 use Rattle.px_arena.proofs.Measure.{denoted_within}
 use Rattle.px_expr.specs.Kernel.{all_kernels}
 use Rattle.px_expr.specs.Plan.{catalog_of}
-use Rattle.px_rules.proofs.FoldRewrites.{input_within, no_negate, no_literal, no_negation, offer_opposite}
+use Rattle.px_rules.proofs.FoldRewrites.{input_within, no_negate, no_literal, no_negation, offer_complement}
 use Rattle.px_rules.proofs.KeptOptions.{keeps_literal}
 use Rattle.px_rules.proofs.simplify_boolean.negate_literal.Goals as goal
 
@@ -24,7 +24,7 @@ returns-in_default-literal_of-clause-answer g c =
 
 pub returns-in-Some-negated_literal-clause-answer : goal.returns-in-Some-negated_literal-clause-answer
 returns-in-Some-negated_literal-clause-answer g c =
-    offer_opposite (catalog_of c.args.plan.now.schema.now (all_kernels (λ b. (goal.ColumnsUdf-dyn g (b.vtable, b.value)).declared b.value) (λ b. (goal.ColumnsUdf-dyn g (b.vtable, b.value)).answer b.value) c.args.plan.now.kernels.now.entries.items)) c.args.plan.now.context c.args.arena.now c.args.node.0 c.get.result.now c.get-2.result.now c.in-Some.input c.in-Some-literal_of.value.now c.in-Some-negated_literal.negated c.requires c.get.ensures (sym c.negate_of.ensures ∙ c.in-Some.is) c.get-2.ensures (sym c.literal_of.ensures ∙ ap option_copied c.in-Some-literal_of.is) (sym c.negated_literal.ensures ∙ c.in-Some-negated_literal.is)
+    offer_complement (catalog_of c.args.plan.now.schema.now (all_kernels (λ b. (goal.ColumnsUdf-dyn g (b.vtable, b.value)).declared b.value) (λ b. (goal.ColumnsUdf-dyn g (b.vtable, b.value)).answer b.value) c.args.plan.now.kernels.now.entries.items)) c.args.plan.now.context c.args.arena.now c.args.node.0 c.get.result.now c.get-2.result.now c.in-Some.input c.in-Some-literal_of.value.now c.in-Some-negated_literal.negated c.requires c.get.ensures (sym c.negate_of.ensures ∙ c.in-Some.is) c.get-2.ensures (sym c.literal_of.ensures ∙ ap option_copied c.in-Some-literal_of.is) (sym c.negated_literal.ensures ∙ c.in-Some-negated_literal.is)
 
 pub returns-in-None-clause-answer : goal.returns-in-None-clause-answer
 returns-in-None-clause-answer g c =

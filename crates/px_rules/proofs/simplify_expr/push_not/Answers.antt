@@ -4,7 +4,7 @@ use Rattle.px_arena.proofs.Measure.{denoted_within}
 use Rattle.px_rules.specs.Negation.{boolean_call}
 use Rattle.px_expr.specs.Kernel.{all_kernels}
 use Rattle.px_expr.specs.Plan.{catalog_of}
-use Rattle.px_rules.proofs.NegationRewrites.{input_within, operands_within, inner_within, no_not, no_inward, no_call, offer_boolean, offer_opposite, offer_call, offer_two}
+use Rattle.px_rules.proofs.NegationRewrites.{input_within, operands_within, inner_within, no_not, no_inward, no_call, offer_boolean, offer_complement, offer_call, offer_two}
 use Rattle.px_expr.specs.declared.literal.LiteralValue.TheVariants as lit
 use Rattle.px_rules.proofs.KeptOptions.{keeps_literal, keeps_binary, keeps_two_nots, keeps_call}
 use Rattle.px_rules.proofs.simplify_expr.push_not.Goals as goal
@@ -43,9 +43,9 @@ pub returns-in-None-inward-clause-answer : goal.returns-in-None-inward-clause-an
 returns-in-None-inward-clause-answer g c =
     no_inward (catalog_of c.args.plan.now.schema.now (all_kernels (λ b. (goal.ColumnsUdf-dyn g (b.vtable, b.value)).declared b.value) (λ b. (goal.ColumnsUdf-dyn g (b.vtable, b.value)).answer b.value) c.args.plan.now.kernels.now.entries.items)) c.args.plan.now.context c.args.arena.now c.args.node.0 c.get.result.now c.get-under.result.now c.in-Some.outer c.in-Some-binary_of.inner c.get.ensures (sym c.not_of.ensures ∙ c.in-Some.is) c.get-under.ensures (sym c.boolean_literal_of.ensures ∙ c.in-None.is) (sym c.binary_of.ensures ∙ c.in-Some-binary_of.is) (sym c.inward.ensures ∙ c.in-None-inward.is)
 
-pub returns-in-Some-Opposite-clause-answer : goal.returns-in-Some-Opposite-clause-answer
-returns-in-Some-Opposite-clause-answer g c =
-    offer_opposite (catalog_of c.args.plan.now.schema.now (all_kernels (λ b. (goal.ColumnsUdf-dyn g (b.vtable, b.value)).declared b.value) (λ b. (goal.ColumnsUdf-dyn g (b.vtable, b.value)).answer b.value) c.args.plan.now.kernels.now.entries.items)) c.args.plan.now.context c.args.arena.now c.args.node.0 c.get.result.now c.get-under.result.now c.in-Some.outer c.in-Some-binary_of.inner c.in-Some-Opposite.op c.requires c.get.ensures (sym c.not_of.ensures ∙ c.in-Some.is) c.get-under.ensures (sym c.binary_of.ensures ∙ c.in-Some-binary_of.is) (sym c.inward.ensures ∙ c.in-Some-Opposite.is ∙ ap Some c.in-Some-Opposite.field-0-is)
+pub returns-in-Some-Complement-clause-answer : goal.returns-in-Some-Complement-clause-answer
+returns-in-Some-Complement-clause-answer g c =
+    offer_complement (catalog_of c.args.plan.now.schema.now (all_kernels (λ b. (goal.ColumnsUdf-dyn g (b.vtable, b.value)).declared b.value) (λ b. (goal.ColumnsUdf-dyn g (b.vtable, b.value)).answer b.value) c.args.plan.now.kernels.now.entries.items)) c.args.plan.now.context c.args.arena.now c.args.node.0 c.get.result.now c.get-under.result.now c.in-Some.outer c.in-Some-binary_of.inner c.in-Some-Complement.op c.requires c.get.ensures (sym c.not_of.ensures ∙ c.in-Some.is) c.get-under.ensures (sym c.binary_of.ensures ∙ c.in-Some-binary_of.is) (sym c.inward.ensures ∙ c.in-Some-Complement.is ∙ ap Some c.in-Some-Complement.field-0-is)
 
 pub returns-in_ok-right-in-Some-Dual-clause-answer : goal.returns-in_ok-right-in-Some-Dual-clause-answer
 returns-in_ok-right-in-Some-Dual-clause-answer g c =
@@ -58,8 +58,8 @@ returns-in-None-boolean_of-clause-answer g c =
 pub returns-in-Some-boolean_literal_of-clause-options : goal.returns-in-Some-boolean_literal_of-clause-options
 returns-in-Some-boolean_literal_of-clause-options g c = keeps_literal c.args.arena.now c.args.node.0 (lit.Boolean (not c.in-Some-boolean_literal_of.value))
 
-pub returns-in-Some-Opposite-clause-options : goal.returns-in-Some-Opposite-clause-options
-returns-in-Some-Opposite-clause-options g c = keeps_binary c.args.arena.now c.args.node.0 c.in-Some-binary_of.inner.left c.in-Some-binary_of.inner.right c.in-Some-Opposite.op
+pub returns-in-Some-Complement-clause-options : goal.returns-in-Some-Complement-clause-options
+returns-in-Some-Complement-clause-options g c = keeps_binary c.args.arena.now c.args.node.0 c.in-Some-binary_of.inner.left c.in-Some-binary_of.inner.right c.in-Some-Complement.op
 
 pub returns-in_ok-right-in-Some-Dual-clause-options : goal.returns-in_ok-right-in-Some-Dual-clause-options
 returns-in_ok-right-in-Some-Dual-clause-options g c =

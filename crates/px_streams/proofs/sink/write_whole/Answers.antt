@@ -6,5 +6,5 @@ pub loop-written-preserved : goal.loop-written-preserved
 loop-written-preserved g c = record {
   within = grind arith;
   front = more_written _ _ _ c.args.bytes.now _ _ c.loop-written.invariant.front c.in_ok-written.ensures.bytes;
-  later = search rules;
+  faults_count_up = search rules;
 }

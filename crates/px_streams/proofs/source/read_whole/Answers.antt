@@ -22,5 +22,5 @@ loop-bytes-preserved g c =
       within = within_limit _ _ _ _ _ grown read.bound.1 (omega (arith, c.if-count-len.false, c.len.ensures, c.loop-bytes.bytes.ok.0)) c.loop-bytes.invariant.within;
       room = omega (arith, c.read.auto.buffer, c.loop-bytes.invariant.room);
       taken = more_taken _ _ _ _ c.read.new.buffer _ c.in-Ok.count c.loop-bytes.invariant.taken read.bytes.0 grown;
-      later = omega (arith, c.read.ensures.cause.later, c.loop-bytes.invariant.later);
+      faults_count_up = omega (arith, c.read.ensures.cause.faults_count_up, c.loop-bytes.invariant.faults_count_up);
     }

@@ -7,7 +7,7 @@ invariant-loop-bytes g l = record {
   within : length l.bytes.items ≤ 67108864;
   room : 0 < length l.buffer;
   taken : Consumes (g.S.Source.left l.initial.source) (g.S.Source.left l.source) l.bytes.items;
-  later : g.S.Source.faults l.initial.source ≤ g.S.Source.faults l.source;
+  faults_count_up : g.S.Source.faults l.initial.source ≤ g.S.Source.faults l.source;
 }
 
 abbrev pub decreases-loop-bytes : goal.decreases-loop-bytes

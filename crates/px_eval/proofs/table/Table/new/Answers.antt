@@ -1,6 +1,6 @@
 use Rattle.std.proofs.Common.{◌≡◌, ◌≤◌, ◌∙◌, ℕ, zero, suc, ap, arith, map, replicate, List, ◌∷◌, Option, None, refl}
 use Rattle.std.specs.Prelude.{option_map}
-use Rattle.px_types.specs.Rows.{TypedRows}
+use Rattle.px_semantics.specs.Rows.{TypedRows}
 use Rattle.px_eval.specs.Table.{values_of}
 use Rattle.px_eval.proofs.table.Table.new.Goals as goal
 

@@ -1,7 +1,7 @@
 use Rattle.std.proofs.Common.{◌∙◌, List, Option, Some, set, ap}
 use Rattle.std.specs.Prelude.{option_map}
 use Rattle.std.proofs.lemmas.List.{map-set}
-use Rattle.px_types.specs.Rows.{TypedRows}
+use Rattle.px_semantics.specs.Rows.{TypedRows}
 use Rattle.px_eval.specs.Table.{values_of}
 use Rattle.px_eval.proofs.table.Table.put.Goals as goal
 

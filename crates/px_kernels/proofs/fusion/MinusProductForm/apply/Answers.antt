@@ -5,6 +5,6 @@ use Rattle.px_kernels.proofs.fusion.MinusProductForm.apply.Goals as goal
 
 pub returns : goal.returns
 returns g c =
-    let n = g.T.Number.number in
-    let kind = g.T.Number.kind in
-    c.minus.ensures ∙ ap (λ t. into kind (n c.args.x -ℤ t)) c.times.ensures ∙ into-sub_right kind (n c.args.x) (n c.args.y *ℤ n c.args.z)
+    let n = g.T.Integer.integer in
+    let value_type = g.T.Integer.value_type in
+    c.minus.ensures ∙ ap (λ t. into value_type (n c.args.x -ℤ t)) c.times.ensures ∙ into-sub_right value_type (n c.args.x) (n c.args.y *ℤ n c.args.z)

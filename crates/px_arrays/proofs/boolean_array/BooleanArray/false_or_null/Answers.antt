@@ -1,0 +1,12 @@
+use Rattle.px_arrays.proofs.Truth.{have_rows, with_null_and}
+use Rattle.px_arrays.proofs.boolean_array.BooleanArray.false_or_null.Goals as goal
+
+pub invariant_of-result : goal.invariant_of-result
+invariant_of-result c =
+    let mine = have_rows c.self.inside.truth c.self.inside.valid c.args.self.now c.self.invariant c.self.view_is in
+    (with_null_and c.len.result c.in_ok-truth.truth c.in_ok-valid.valid mine c.len.ensures.bits c.in_ok-truth.ensures c.in_ok-valid.ensures).inv
+
+pub returns : goal.returns
+returns c =
+    let mine = have_rows c.self.inside.truth c.self.inside.valid c.args.self.now c.self.invariant c.self.view_is in
+    (with_null_and c.len.result c.in_ok-truth.truth c.in_ok-valid.valid mine c.len.ensures.bits c.in_ok-truth.ensures c.in_ok-valid.ensures).is

@@ -1,0 +1,3 @@
+pub mod BitmapOf
+pub mod IntegerArrayOf
+pub mod StringArrayOf

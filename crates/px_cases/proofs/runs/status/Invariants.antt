@@ -1,0 +1,5 @@
+use Rattle.px_cases.proofs.runs.status.Given as goal
+
+-- the ledger of the blank one
+abbrev pub ghosts-counted : goal.ghosts-counted
+ghosts-counted a = record { name = a.blank.name; parts = a.blank.parts }

@@ -1,0 +1,5 @@
+pub mod JsonAccessLemmas
+pub mod DigitLemmas
+pub mod Rows
+pub mod RoundTrip
+pub mod Decimals

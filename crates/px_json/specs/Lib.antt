@@ -1,0 +1,6 @@
+pub mod Answer
+pub mod JsonAccess
+pub mod Digits
+pub mod Names
+pub mod Column
+pub mod Built

@@ -1,4 +1,0 @@
-use Rattle.px_kernels.proofs.casts.cast_numbers.Goals as goal
-
-pub returns-in-Strict-clause-err : goal.returns-in-Strict-clause-err
-returns-in-Strict-clause-err g c = rw c.in-Strict.is c.strict_numbers.ensures.err

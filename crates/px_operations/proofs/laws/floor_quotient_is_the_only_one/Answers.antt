@@ -1,5 +1,0 @@
-use Rattle.px_types.proofs.Quotients.{floor_quotient_only}
-use Rattle.px_operations.proofs.laws.floor_quotient_is_the_only_one.Goals as goal
-
-pub returns : goal.returns
-returns c = floor_quotient_only

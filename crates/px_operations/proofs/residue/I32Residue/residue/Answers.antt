@@ -1,6 +1,0 @@
-use Rattle.std.specs.Int.{w32}
-use Rattle.px_operations.proofs.Residues.{signed_residue}
-use Rattle.px_operations.proofs.residue.I32Residue.residue.Goals as goal
-
-pub returns : goal.returns
-returns c = signed_residue w32 c.args.wide c.cast_signed.result c.residue.result c.ranges.wide c.cast_signed.ensures c.residue.ensures

@@ -1,9 +1,0 @@
-use Rattle.std.proofs.Common.{◌∙◌, sym, ap, length}
-use Rattle.px_rows.proofs.Truth.{length-truths, truths_typed}
-use Rattle.px_rows.proofs.truths.Truths.len.Goals as goal
-
-pub returns-clause-rows : goal.returns-clause-rows
-returns-clause-rows c = c.len.ensures.bits ∙ sym (length-truths c.self.inside.truth c.self.inside.valid c.self.invariant) ∙ ap length c.self.view_is
-
-pub returns-clause-typed : goal.returns-clause-typed
-returns-clause-typed c = rw (← c.self.view_is) (truths_typed c.self.inside.truth c.self.inside.valid)

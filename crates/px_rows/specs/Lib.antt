@@ -1,3 +1,0 @@
-pub mod BitsOf
-pub mod NumbersOf
-pub mod TextsOf

@@ -1,0 +1,11 @@
+use Rattle.px_semantics.proofs.LawLemmas.{and_commutes, or_commutes, xor_commutes}
+use Rattle.px_semantics.proofs.laws.logic_commutes.Goals as goal
+
+pub returns-clause-and : goal.returns-clause-and
+returns-clause-and c = and_commutes
+
+pub returns-clause-or : goal.returns-clause-or
+returns-clause-or c = or_commutes
+
+pub returns-clause-xor : goal.returns-clause-xor
+returns-clause-xor c = xor_commutes

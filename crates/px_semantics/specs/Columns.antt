@@ -1,0 +1,34 @@
+-- Columns: fewer than 2^32 rows, each of them null or a value of the type.
+use Rattle.std.specs.Prelude.{◌<◌, ◌^◌, Bool, true, false, ◌&&◌, nat_lt, length, List, Some, None}
+use Rattle.std.specs.List.{list_all}
+use Rattle.std.specs.Simd.Lanes.{Each1}
+use Rattle.px_types.specs.declared.value_type.ValueType.{ValueType}
+use Rattle.px_types.specs.declared.value_type.ValueType.TheVariants as value_type
+use Rattle.px_semantics.specs.Rows.{Truth, Text, Integer, Row, TypedRows, Contents, IsRowOf}
+use Rattle.px_types.specs.ValueTypes.{holds}
+
+pub record IsColumn (values : TypedRows) : Type 0 where
+  pub few : length values.rows < 2 ^ 32
+  pub typed : Each1 (IsRowOf values.value_type) values.rows
+
+abbrev pub is_boolean : ValueType → Bool
+is_boolean value_type.Boolean = true
+is_boolean _ = false
+
+abbrev pub is_string : ValueType → Bool
+is_string value_type.String = true
+is_string _ = false
+
+-- whether the row is null or a value of the type
+abbrev pub is_row_of : ValueType → Row → Bool
+is_row_of k None = true
+is_row_of k (Some (Truth t)) = is_boolean k
+is_row_of k (Some (Text bytes)) = is_string k
+is_row_of k (Some (Integer z)) = holds k z
+
+-- the test of `IsColumn`
+unfoldable pub is_column : TypedRows → Bool
+is_column values = nat_lt (length values.rows) (2 ^ 32) && list_all (is_row_of values.value_type) values.rows
+
+abbrev pub are_columns : List Contents → Bool
+are_columns columns = list_all (λ (c : Contents). is_column c.values) columns

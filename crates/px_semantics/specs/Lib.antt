@@ -1,0 +1,12 @@
+pub mod Rows
+pub mod Columns
+pub mod Frames
+pub mod Bitwise
+pub mod Arithmetic
+pub mod Logic
+pub mod Comparisons
+pub mod Selections
+pub mod Casts
+pub mod Fused
+pub mod Laws
+pub mod FusedLaws

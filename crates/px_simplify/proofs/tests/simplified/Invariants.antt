@@ -1,5 +1,0 @@
-use Rattle.px_simplify.proofs.tests.simplified.Given as goal
-
--- the ledger of the blank one
-abbrev pub ghosts-counted : goal.ghosts-counted
-ghosts-counted a = record { name = a.blank.name; parts = a.blank.parts }

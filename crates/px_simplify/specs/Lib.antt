@@ -1,2 +1,0 @@
-pub mod Simplify
-pub mod Means

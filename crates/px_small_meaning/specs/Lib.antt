@@ -1,4 +1,0 @@
-pub mod Schema
-pub mod Mean
-pub mod Check
-pub mod Rewrite
