@@ -12,4 +12,4 @@ mod unite;
 
 pub use checked::{Checked, CheckedList};
 pub use found::{Found, Operand};
-pub use nodes::{alias, binary, cast, column, function, literal, with_default_type, ternary};
+pub use nodes::{alias, binary, cast, column, function, literal, ternary, with_default_type};

@@ -499,7 +499,7 @@ pub fn function(
     ))
 }
 
-/// A whole expression: an integer literal has its default type. `InvalidOperation` where it has none. `InvalidOperation` where it has none.
+/// A whole expression: an integer literal has its default type. `InvalidOperation` where it has none.
 pub fn with_default_type(alloc: Global, found: Found) -> Result<Checked, PlanError>
     requires { IfOk (check.with_default_type (seen found)) (λ t. IsLowerable t.tree) }
     ensures answer { AnswersOrMemory typed_of result (check.with_default_type (seen found)) }
