@@ -2,7 +2,7 @@
 ghost use Rattle.std.specs.Prelude.{◌≡◌, IsSome, Some, IfOk, false};
 ghost use Rattle.serde_json.specs.View.{view};
 ghost use Rattle.serde_json.specs.Written.{has_float};
-ghost use Rattle.px_json.specs.Answer.{ShowsOrMemory};
+ghost use Rattle.px_base.specs.Answer.{GivesSeen};
 ghost use Rattle.px_forms.specs.Written.{all_data};
 ghost use Rattle.px_document.specs.Report.{report};
 ghost use Rattle.px_eval.specs.Selected.{answered};
@@ -17,7 +17,7 @@ use std::alloc::Global;
 /// has a form, as each tree of a run has. The only error is out of memory.
 pub fn report_value(alloc: Global, collected: &Collected) -> Result<Value, PlanError>
     requires { IsSome (all_data (answered collected.now)) }
-    ensures value { ShowsOrMemory (λ v. Some (view v)) result
+    ensures value { GivesSeen (λ v. Some (view v)) result
         (report collected.now.columns (answered collected.now) collected.now.rewrites) }
 
     // It has no float, so its compact text is known.

@@ -2,6 +2,6 @@ pub mod Bitmaps
 pub mod Lanes
 pub mod Counts
 pub mod Entries
-pub mod Truth
+pub mod BooleanRows
 pub mod StringRows
 pub mod StringDataLemmas

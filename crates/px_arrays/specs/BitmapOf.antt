@@ -3,7 +3,7 @@ use Rattle.std.specs.Prelude.{◌≡◌, ℕ, ◌+◌, ◌/◌, ◌%◌, ◌≤�
 use Rattle.std.specs.List.{range_with_len}
 use Rattle.std.specs.Int.{bit_at}
 use Rattle.std.specs.Simd.Lanes.{zip2}
-use Rattle.px_semantics.specs.Rows.{Row, Truth}
+use Rattle.px_semantics.specs.Rows.{Row, BooleanValue}
 
 -- whether bit i of the words is set: bit i % 64 of word i / 64
 unfoldable pub bit_of : List ℕ → ℕ → Bool
@@ -26,4 +26,4 @@ pub record AreBitmaps (truth valid : List Bool) : Type 0 where
 
 -- the row of a Boolean that is not null
 abbrev pub non_null : Bool → Row
-non_null flag = Some (Truth flag)
+non_null flag = Some (BooleanValue flag)

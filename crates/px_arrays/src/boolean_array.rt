@@ -1,5 +1,6 @@
 //! A list of Booleans, each of which may be null, in two bitmaps.
 ghost use Rattle.std.specs.Prelude.{◌≡◌, ◌⊎◌, ◌<◌, ◌^◌, length, map, replicate, get_or, Some, None, is_some, unwrap_or, false, not, IfOk, IfErr};
+ghost use Rattle.px_base.specs.Answer.{GivesOr};
 ghost use Rattle.std.specs.Simd.Lanes.{zip2, Each1};
 ghost use Rattle.px_semantics.specs.Logic.{is_true, and_row, or_row, xor_row, not_row, boolean_logic_row, IsLogic};
 ghost use Rattle.px_semantics.specs.Rows.{boolean_entry, boolean_row, elementwise, IsRowOf};
@@ -32,7 +33,7 @@ impl Model for BooleanArray {
 }
 
 /// The Booleans, and false where there is none.
-fn truths_or_false(alloc: Global, values: &[Option<bool>]) -> Result<Vec<bool>, AllocError>
+fn booleans_or_false(alloc: Global, values: &[Option<bool>]) -> Result<Vec<bool>, AllocError>
     ensures { IfOk result (λ v. v.items ≡ map (λ o. unwrap_or o false) values.now) }
 {
     values.iter().map(|v| v.unwrap_or(false)).collect(alloc)
@@ -83,7 +84,7 @@ impl BooleanArray {
     }
 
     /// True where a flag is not set, false where it is, and no null.
-    pub fn certain_not(alloc: Global, flags: &Bitmap) -> Result<BooleanArray, AllocError>
+    pub fn complement_of(alloc: Global, flags: &Bitmap) -> Result<BooleanArray, AllocError>
         ensures { IfOk result (λ r. r ≡ map non_null (map not flags.now)) }
     {
         let valid = Bitmap::filled(alloc, flags.len(), true)?;
@@ -106,7 +107,7 @@ impl BooleanArray {
         requires { length values.now < 2 ^ 32 }
         ensures { IfOk result (λ r. r ≡ map boolean_row values.now) }
     {
-        let flags = truths_or_false(alloc, values)?;
+        let flags = booleans_or_false(alloc, values)?;
         let valid = validity_flags(alloc, values)?;
         let valid = Bitmap::from_bools(alloc, valid.as_slice())?;
         BooleanArray::from_flags(alloc, flags.as_slice(), valid)
@@ -313,9 +314,8 @@ impl BooleanArray {
         other: &BooleanArray,
     ) -> Result<BooleanArray, PlanError>
         requires { IsLogic op }
-        ensures rows { IfOk result (λ r. Some r ≡ elementwise (boolean_logic_row op) self.now other.now) }
-        ensures err { IfErr result (λ e. (e ≡ PlanError.OutOfMemory)
-            ⊎ ((e ≡ PlanError.ShapeMismatch) × (elementwise (boolean_logic_row op) self.now other.now ≡ None))) }
+        ensures rows { GivesOr PlanError.ShapeMismatch (λ r. r) result
+            (elementwise (boolean_logic_row op) self.now other.now) }
     {
         let m = self.len();
         let n = other.len();

@@ -1,5 +1,6 @@
 //! A list of numbers of one integer type, each of which may be null.
 ghost use Rattle.std.specs.Prelude.{◌≡◌, ◌<◌, ◌^◌, ◌⊎◌, length, map, get_or, replicate, Some, None, is_some, IfOk, IfErr, IfSome, IsSome, ◌↔◌, option_map};
+ghost use Rattle.px_base.specs.Answer.{GivesOr};
 ghost use Rattle.std.specs.Simd.Lanes.{zip2, Each1};
 ghost use Rattle.px_semantics.specs.Bitwise.{bitwise, complement};
 ghost use Rattle.px_types.specs.Integers.{InRange};
@@ -194,9 +195,8 @@ impl<T: Integer> IntegerArray<T> {
         alloc: Global,
         other: &IntegerArray<T>,
     ) -> Result<IntegerArray<T>, PlanError>
-        ensures rows { IfOk result (λ r. Some r ≡ elementwise (lift O.meaning) self.now other.now) }
-        ensures err { IfErr result (λ e. (e ≡ PlanError.OutOfMemory)
-            ⊎ ((e ≡ PlanError.ShapeMismatch) × (elementwise (lift O.meaning) self.now other.now ≡ None))) }
+        ensures rows { GivesOr PlanError.ShapeMismatch (λ r. r) result
+            (elementwise (lift O.meaning) self.now other.now) }
     {
         let m = self.len();
         let n = other.len();
@@ -222,11 +222,8 @@ impl<T: Integer> IntegerArray<T> {
         other: &IntegerArray<T>,
     ) -> Result<IntegerArray<T>, PlanError>
         requires { IsLogic op }
-        ensures rows { IfOk result (λ r. Some r
-            ≡ elementwise (lift (bitwise (word_of op) T.value_type)) self.now other.now) }
-        ensures err { IfErr result (λ e. (e ≡ PlanError.OutOfMemory)
-            ⊎ ((e ≡ PlanError.ShapeMismatch)
-            × (elementwise (lift (bitwise (word_of op) T.value_type)) self.now other.now ≡ None))) }
+        ensures rows { GivesOr PlanError.ShapeMismatch (λ r. r) result
+            (elementwise (lift (bitwise (word_of op) T.value_type)) self.now other.now) }
     {
         match op {
             Operator::And => self.combine::<BitAnd>(alloc, other),

@@ -15,11 +15,11 @@ pub struct StringData {
 
 impl Model for StringData {
     ghost use Rattle.std.specs.Prelude.{ℕ, List, string_bytes};
-    ghost use Rattle.px_arrays.specs.StringArrayOf.{texts_in, AreEnds};
+    ghost use Rattle.px_arrays.specs.StringArrayOf.{strings_in, AreEnds};
 
     ghost Value = { List (List ℕ) };
 
-    ghost view = { λ b. texts_in (string_bytes b.text) 0 b.ends.items };
+    ghost view = { λ b. strings_in (string_bytes b.text) 0 b.ends.items };
 
     ghost invariant = { λ b. AreEnds (string_bytes b.text) 0 b.ends.items };
 }

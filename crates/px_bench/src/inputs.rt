@@ -18,9 +18,9 @@ pub struct Sources {
 /// The columns of these rows.
 #[derive(Drop)]
 pub struct Columns {
-    pub truths: Column,
+    pub booleans: Column,
     pub numbers: Column,
-    ghost boolean: { truths.values.value_type ≡ value_type.Boolean },
+    ghost boolean: { booleans.values.value_type ≡ value_type.Boolean },
     ghost integer: { numbers.values.value_type ≡ value_type.Int32 },
 }
 
@@ -48,9 +48,9 @@ impl Sources {
 
 impl Columns {
     fn new(alloc: Global, sources: &Sources) -> Result<Columns, PlanError> {
-        let truths = truth_column(alloc, sources.flags.as_slice())?;
+        let booleans = boolean_column(alloc, sources.flags.as_slice())?;
         let numbers = number_column(alloc, sources.narrow.as_slice())?;
-        Ok(Columns { truths, numbers })
+        Ok(Columns { booleans, numbers })
     }
 }
 
@@ -117,7 +117,7 @@ fn widened(alloc: Global, numbers: &[Option<i32>]) -> Result<Vec<Option<i128>>, 
     Ok(wide)
 }
 
-pub fn truth_column(alloc: Global, flags: &[Option<bool>]) -> Result<Column, PlanError>
+pub fn boolean_column(alloc: Global, flags: &[Option<bool>]) -> Result<Column, PlanError>
     ensures { IfOk result (λ c. c.values.value_type ≡ value_type.Boolean) }
 {
     Column::new_bool(alloc, "p", flags)

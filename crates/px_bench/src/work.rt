@@ -1,7 +1,7 @@
 //! The work that is timed.
 ghost use Rattle.std.specs.Prelude.{◌≡◌};
 
-use crate::inputs::{Inputs, checked_column, number_column, truth_column};
+use crate::inputs::{Inputs, boolean_column, checked_column, number_column};
 use px_column::Column;
 use px_kernels::{arith, cast, compare, is_null, kleene_and, negate, zip_with};
 use px_types::{AnyValue, CastOptions, DataType, Operator, PlanError};
@@ -69,12 +69,12 @@ impl Work {
     /// Does the work once, and gives a number that depends on the answer, so that no work is left out.
     pub fn run(&self, alloc: Global, inputs: &Inputs) -> Result<u64, PlanError> {
         let sources = &inputs.sources;
-        let (p, q) = (&inputs.first.truths, &inputs.second.truths);
+        let (p, q) = (&inputs.first.booleans, &inputs.second.booleans);
         let (a, b) = (&inputs.first.numbers, &inputs.second.numbers);
         let answer = match self {
             Work::NullCountBoolean => return Ok(u64::from(p.null_count())),
             Work::NullCountInteger => return Ok(u64::from(a.null_count())),
-            Work::BuildBoolean => truth_column(alloc, sources.flags.as_slice())?,
+            Work::BuildBoolean => boolean_column(alloc, sources.flags.as_slice())?,
             Work::BuildInteger => checked_column(alloc, sources.wide.as_slice())?,
             Work::BuildByRows => number_column(alloc, sources.narrow.as_slice())?,
             Work::KleeneAnd => kleene_and(alloc, p, q)?,

@@ -3,7 +3,7 @@
 //! Where an expression is dropped, `drop` is called by name: the proof of that is short, and at the end of
 //! a scope it would go through each variant of the expression.
 ghost use Rattle.std.specs.Prelude.{◌≡◌, [], ◌∷◌, ◌++◌, map, Ok, IfOk, IsErr};
-ghost use Rattle.px_base.specs.Answer.{AnswersOrMemory};
+ghost use Rattle.px_base.specs.Answer.{AnswersOrMemory, GivesSeen};
 ghost use Rattle.px_types.specs.Schemas.{names_of};
 ghost use Rattle.px_expr.specs.declared.context.Context.TheVariants.{Select};
 ghost use Rattle.px_expr.specs.Tree.{Alias, Binary, Cast, Ternary, Function, tree_of};
@@ -12,7 +12,7 @@ ghost use Rattle.px_meaning.specs.Names.{name};
 ghost use Rattle.px_meaning.specs.Check.{Typed, then_, found, all_results, find, as_asked, with_names};
 ghost use Rattle.px_meaning.specs.Check as check;
 ghost use Rattle.px_expr.specs.Plan.{catalog_of};
-ghost use Rattle.px_coercion.specs.Found.{seen, options_in, GivesSeen};
+ghost use Rattle.px_coercion.specs.Found.{seen, options_in};
 ghost use Rattle.px_coercion.specs.CheckedTree.{typed_of};
 ghost use Rattle.px_check.specs.Inputs.{at_node, found_all, refused_over};
 
@@ -381,7 +381,7 @@ fn check_inputs<K: Kernels>(
 }
 
 // The checked tree with its type and name, or the first fault.
-#[tactic(auto, using(crate::proofs::Lowerable::settled_lowerable))]
+#[tactic(auto, using(crate::proofs::Lowerable::default_type_lowerable))]
 fn check_whole<K: Kernels>(
     alloc: Global,
     schema: &Schema,

@@ -23,18 +23,13 @@ seen (found.Typed e k) = check.Checked (record { tree = tree_of e; value_type = 
 seen (found.Untyped z) = check.Untyped z
 
 abbrev pub read : Operand → meaning.Operand
-read (operand.Known k) = meaning.Known k
-read (operand.Free z) = meaning.Free z
+read (operand.OfType k) = meaning.OfType k
+read (operand.UntypedInteger z) = meaning.UntypedInteger z
 
 -- the options in what is found; an integer literal has none
 abbrev pub options_in : Found → List FunctionOptions
 options_in (found.Typed e k) = options_of e
 options_in (found.Untyped z) = []
-
--- the value, of which `view` is seen, or out of memory
-abbrev pub GivesSeen : {A B : Type 0} → (A → B) → Result A PlanError → B → Type 0
-GivesSeen view (Ok a) value = view a ≡ value
-GivesSeen view (Err e) value = e ≡ OutOfMemory
 
 -- the node by its signature, or the fault that there is none
 abbrev pub by_signature : Option Signature → Node → List check.Found → Result check.Found PlanError
@@ -50,8 +45,8 @@ sole_type (o ∷ []) = own_type o
 sole_type _ = None
 
 -- a signature that wants one type of each input
-abbrev pub even : List meaning.Operand → ValueType × ValueType → Signature
-even os p = record { inputs = map (λ _. p.0) os; result = p.1 }
+abbrev pub uniform_signature : List meaning.Operand → ValueType × ValueType → Signature
+uniform_signature os p = record { inputs = map (λ _. p.0) os; result = p.1 }
 
 -- the signature of a mask and two branches in one type
 abbrev pub branches : ValueType → Signature
@@ -59,5 +54,5 @@ branches k = record { inputs = Boolean ∷ k ∷ k ∷ []; result = k }
 
 -- the type so far, or its common type with the default type of an integer literal that `base` does not hold
 abbrev pub widened_by : ValueType → Option ValueType → meaning.Operand → Option ValueType
-widened_by base common (meaning.Known k) = common
-widened_by base common (meaning.Free z) = if holds base z then common else common_of common (default_type z)
+widened_by base common (meaning.OfType k) = common
+widened_by base common (meaning.UntypedInteger z) = if holds base z then common else common_of common (default_type z)

@@ -44,7 +44,7 @@ impl Model for Checked {
 }
 
 impl Checked {
-    ghost use Rattle.px_coercion.specs.Found.{GivesSeen};
+    ghost use Rattle.px_base.specs.Answer.{GivesSeen};
 
     /// The expression under its type and its name.
     pub fn new(alloc: Global, tree: Expr, value_type: ValueType) -> Result<Checked, PlanError>

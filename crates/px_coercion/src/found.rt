@@ -10,8 +10,8 @@ use px_types::{ValueType, default_type};
 /// An input with its type, or an integer literal that has none.
 #[derive(Clone, Copy)]
 pub enum Operand {
-    Known(ValueType),
-    Free(i128),
+    OfType(ValueType),
+    UntypedInteger(i128),
 }
 
 /// A checked expression with its type, or an integer literal whose type the node above decides.
@@ -27,8 +27,8 @@ impl Found {
         ensures { read result ≡ operand_of (seen self.now) }
     {
         match self {
-            Found::Typed(_, value_type) => Operand::Known(*value_type),
-            Found::Untyped(v) => Operand::Free(*v),
+            Found::Typed(_, value_type) => Operand::OfType(*value_type),
+            Found::Untyped(v) => Operand::UntypedInteger(*v),
         }
     }
 }
@@ -39,8 +39,8 @@ impl Operand {
         ensures { result ≡ own_type (read self) }
     {
         match self {
-            Operand::Known(value_type) => Some(value_type),
-            Operand::Free(v) => default_type(v),
+            Operand::OfType(value_type) => Some(value_type),
+            Operand::UntypedInteger(v) => default_type(v),
         }
     }
 }

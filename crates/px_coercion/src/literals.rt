@@ -1,7 +1,7 @@
 //! Literals: their types, and those of integers.
 ghost use Rattle.std.specs.Prelude.{◌≡◌, Some, true, option_map};
 ghost use Rattle.px_types.specs.ValueTypes.{holds, default_type};
-ghost use Rattle.px_semantics.specs.Rows.{Integer};
+ghost use Rattle.px_semantics.specs.Rows.{IntegerValue};
 ghost use Rattle.px_expr.specs.declared.literal.LiteralValue.TheVariants as lit;
 ghost use Rattle.px_meaning.specs.Literals.{literal_of, literal_rows, one_row};
 ghost use Rattle.px_meaning.specs.Signatures.{literal_type};
@@ -49,7 +49,7 @@ pub fn default_literal(v: i128) -> Option<(LiteralValue, ValueType)>
 // The type of the literal of a number.
 #[tactic(auto, unfolding(px_semantics::specs::Columns::is_column))]
 fn number_type(value_type: ValueType, v: i128) -> Option<ValueType>
-    ensures { result ≡ literal_type (Some (one_row value_type (Some (Integer v)))) }
+    ensures { result ≡ literal_type (Some (one_row value_type (Some (IntegerValue v)))) }
 {
     if value_type.holds(v) {
         Some(value_type)

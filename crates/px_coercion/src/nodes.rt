@@ -4,7 +4,7 @@
 //! a scope it would go through each variant of the expression.
 ghost use Rattle.std.specs.Prelude.{◌≡◌, [], ◌∷◌, ◌++◌, map, Some, IfOk, OnErr, Err, option_map};
 ghost use Rattle.px_types.specs.declared.value_type.ValueType.TheVariants as bool;
-ghost use Rattle.px_base.specs.Answer.{AnswersOrMemory, GivesOrMemory};
+ghost use Rattle.px_base.specs.Answer.{AnswersOrMemory, GivesOrMemory, GivesSeen};
 ghost use Rattle.px_types.specs.ValueTypes.{value_type_of, default_type};
 ghost use Rattle.px_expr.specs.Tree.{Alias, Column, Literal, Binary, Cast, Ternary, Function, Tree, over, tree_of};
 ghost use Rattle.px_expr.specs.Options.{options_of, joined};
@@ -12,7 +12,7 @@ ghost use Rattle.px_meaning.specs.Signatures.{unary, uniting, any_type, cast_typ
 ghost use Rattle.px_meaning.specs.Check.{then_, or_fault, operand_of, coerced, column_signature, deferred, with_default_type_or, made};
 ghost use Rattle.px_meaning.specs.Check as check;
 ghost use Rattle.px_meaning.specs.Lowerable.{IsLowerable};
-ghost use Rattle.px_coercion.specs.Found.{seen, read, options_in, by_signature, all_coerced, even, branches, GivesSeen};
+ghost use Rattle.px_coercion.specs.Found.{seen, read, options_in, by_signature, all_coerced, uniform_signature, branches};
 ghost use Rattle.px_coercion.specs.CheckedTree.{typed_of};
 
 use crate::checked::Checked;
@@ -218,7 +218,7 @@ fn cast_to(
 
 fn cast_types(dtype: &DataType, operand: Operand) -> Option<(ValueType, ValueType)>
     ensures { unary (cast_type (value_type_of dtype.now)) (read operand ∷ [])
-        ≡ option_map (even (read operand ∷ [])) result }
+        ≡ option_map (uniform_signature (read operand ∷ [])) result }
 {
     let own = operand.own_type()?;
     Some((own, cast_type(dtype, own)?))
@@ -265,7 +265,7 @@ fn united_two(left: Operand, right: Operand) -> Option<ValueType>
 
 fn binary_types(left: Operand, op: Operator, right: Operand) -> Option<(ValueType, ValueType)>
     ensures { uniting 2 (group_type (group_of op)) (read left ∷ read right ∷ [])
-        ≡ option_map (even (read left ∷ read right ∷ [])) result }
+        ≡ option_map (uniform_signature (read left ∷ read right ∷ [])) result }
 {
     let value_type = united_two(left, right)?;
     Some((value_type, operator_type(op, value_type)?))
@@ -440,7 +440,7 @@ fn types_over(
     inputs: &[Found],
 ) -> Result<Option<(ValueType, ValueType)>, PlanError>
     ensures answer { IfOk result (λ p. function_signature function.now (map operand_of (map seen inputs.now))
-        ≡ option_map (even (map operand_of (map seen inputs.now))) p) }
+        ≡ option_map (uniform_signature (map operand_of (map seen inputs.now))) p) }
     ensures err { OnErr result (result ≡ Err PlanError.OutOfMemory) }
 {
     let operands = operands_of(alloc, inputs)?;

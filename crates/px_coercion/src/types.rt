@@ -4,7 +4,7 @@ ghost use Rattle.px_types.specs.Classes.{is_boolean_or_integer};
 ghost use Rattle.px_types.specs.ValueTypes.{value_type_of};
 ghost use Rattle.px_meaning.specs.Signatures.{is_type, integer_type, signed_type, number_type, boolean_type, group_type, group_of, is_castable, cast_type, is_mask, function_signature};
 ghost use Rattle.px_meaning.specs.Check.{column_type};
-ghost use Rattle.px_coercion.specs.Found.{read, sole_type, even};
+ghost use Rattle.px_coercion.specs.Found.{read, sole_type, uniform_signature};
 
 use crate::found::Operand;
 use crate::unite::united;
@@ -157,7 +157,7 @@ pub fn function_types(
     operands: &[Operand],
 ) -> Option<(ValueType, ValueType)>
     ensures { function_signature function.now (map read operands.now)
-        ≡ option_map (even (map read operands.now)) result }
+        ≡ option_map (uniform_signature (map read operands.now)) result }
 {
     match function {
         FunctionExpr::Boolean(BooleanFunction::IsNull | BooleanFunction::IsNotNull) => {

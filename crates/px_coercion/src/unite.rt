@@ -1,7 +1,7 @@
 //! The type to which operands unite.
 ghost use Rattle.std.specs.Prelude.{◌≡◌, map, Some};
 ghost use Rattle.px_types.specs.declared.value_type.ValueType.TheVariants as value_type;
-ghost use Rattle.px_meaning.specs.Signatures.{common_of, common_all, known_types, wanted_types, united};
+ghost use Rattle.px_meaning.specs.Signatures.{common_of, common_all, own_types, wanted_types, united};
 ghost use Rattle.px_coercion.specs.Found.{read, widened_by};
 
 use crate::found::Operand;
@@ -17,12 +17,12 @@ fn common_of(a: Option<ValueType>, b: Option<ValueType>) -> Option<ValueType>
 }
 
 // The common type of the operands that have a type.
-fn known_type(operands: &[Operand]) -> Option<ValueType>
-    ensures { result ≡ common_all (Some value_type.Null) (known_types (map read operands.now)) }
+fn common_own_type(operands: &[Operand]) -> Option<ValueType>
+    ensures { result ≡ common_all (Some value_type.Null) (own_types (map read operands.now)) }
 {
     let mut common = Some(ValueType::Null);
     for operand in operands {
-        if let Operand::Known(own) = operand {
+        if let Operand::OfType(own) = operand {
             common = common_of(common, Some(*own));
         }
     }
@@ -35,8 +35,8 @@ fn widened(base: ValueType, common: Option<ValueType>, operand: Operand) -> Opti
     ensures { result ≡ widened_by base common (read operand) }
 {
     match operand {
-        Operand::Known(_) => common,
-        Operand::Free(v) => {
+        Operand::OfType(_) => common,
+        Operand::UntypedInteger(v) => {
             if base.holds(v) {
                 common
             } else {
@@ -63,6 +63,6 @@ fn wanted_type(base: ValueType, operands: &[Operand]) -> Option<ValueType>
 pub fn united(operands: &[Operand]) -> Option<ValueType>
     ensures { result ≡ united (map read operands.now) }
 {
-    let base = known_type(operands)?;
+    let base = common_own_type(operands)?;
     wanted_type(base, operands)
 }

@@ -74,4 +74,4 @@ pub is_frame : (cs : List Contents) → frame_of cs ≡ Ok cs → are_columns cs
 is_frame cs frame_or_refusal columns = record { frame_or_refusal = frame_or_refusal; columns = are_columns-All cs columns }
 
 pub passes : (v : TypedRows) → length v.rows < 2 ^ 32 → Each1 (IsRowOf v.value_type) v.rows → is_column v ≡ true
-passes v few typed = column-is_column v (record { few = few; typed = typed })
+passes v below_limit typed = column-is_column v (record { below_limit = below_limit; typed = typed })

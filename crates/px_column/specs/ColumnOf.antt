@@ -5,13 +5,13 @@ use Rattle.px_semantics.specs.Rows.{Row, AllInRange}
 use Rattle.px_types.specs.declared.value_type.ValueType.{ValueType}
 use Rattle.px_types.specs.declared.value_type.ValueType.TheVariants as value_type
 use Rattle.px_column.specs.declared.buffer.Buffer.{Buffer}
-use Rattle.px_column.specs.declared.buffer.Buffer.TheVariants.{Null, Boolean, Text, Int8, Int16, Int32, Int64, UInt8, UInt16, UInt32, UInt64}
+use Rattle.px_column.specs.declared.buffer.Buffer.TheVariants.{Null, Boolean, String, Int8, Int16, Int32, Int64, UInt8, UInt16, UInt32, UInt64}
 
 -- the type of the rows
 abbrev pub type_of : Buffer → ValueType
 type_of (Null len) = value_type.Null
 type_of (Boolean rows) = value_type.Boolean
-type_of (Text rows) = value_type.String
+type_of (String rows) = value_type.String
 type_of (Int8 rows) = value_type.Int8
 type_of (Int16 rows) = value_type.Int16
 type_of (Int32 rows) = value_type.Int32
@@ -25,7 +25,7 @@ type_of (UInt64 rows) = value_type.UInt64
 abbrev pub rows_of : Buffer → List Row
 rows_of (Null len) = replicate len None
 rows_of (Boolean rows) = rows
-rows_of (Text rows) = rows
+rows_of (String rows) = rows
 rows_of (Int8 rows) = rows
 rows_of (Int16 rows) = rows
 rows_of (Int32 rows) = rows

@@ -1,6 +1,6 @@
 -- Single values as rows.
 use Rattle.std.specs.Prelude.{◌≡◌, pos, Some, None}
-use Rattle.px_semantics.specs.Rows.{Row, Truth, Text, Integer}
+use Rattle.px_semantics.specs.Rows.{Row, BooleanValue, StringValue, IntegerValue}
 use Rattle.px_types.specs.declared.value_type.ValueType.{ValueType}
 use Rattle.px_types.specs.declared.value_type.ValueType.TheVariants as value_type
 use Rattle.px_types.specs.declared.any_value.AnyValue.{AnyValue}
@@ -8,16 +8,16 @@ use Rattle.px_types.specs.declared.any_value.AnyValue.TheVariants as any
 
 -- the row of a value of a value type
 abbrev pub row_of : AnyValue → Row
-row_of (any.Boolean t) = Some (Truth t)
-row_of (any.String text) = Some (Text text.now)
-row_of (any.UInt8 n) = Some (Integer (pos n))
-row_of (any.UInt16 n) = Some (Integer (pos n))
-row_of (any.UInt32 n) = Some (Integer (pos n))
-row_of (any.UInt64 n) = Some (Integer (pos n))
-row_of (any.Int8 z) = Some (Integer z)
-row_of (any.Int16 z) = Some (Integer z)
-row_of (any.Int32 z) = Some (Integer z)
-row_of (any.Int64 z) = Some (Integer z)
+row_of (any.Boolean t) = Some (BooleanValue t)
+row_of (any.String text) = Some (StringValue text.now)
+row_of (any.UInt8 n) = Some (IntegerValue (pos n))
+row_of (any.UInt16 n) = Some (IntegerValue (pos n))
+row_of (any.UInt32 n) = Some (IntegerValue (pos n))
+row_of (any.UInt64 n) = Some (IntegerValue (pos n))
+row_of (any.Int8 z) = Some (IntegerValue z)
+row_of (any.Int16 z) = Some (IntegerValue z)
+row_of (any.Int32 z) = Some (IntegerValue z)
+row_of (any.Int64 z) = Some (IntegerValue z)
 row_of _ = None
 
 -- the value is null or one of the type

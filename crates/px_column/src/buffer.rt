@@ -1,7 +1,7 @@
 //! The rows of a column, in the form that their type takes.
 ghost use Rattle.std.specs.Prelude.{◌≡◌, ◌⊎◌, ◌<◌, ◌^◌, ◌↔◌, length, map, replicate, get_or, Some, None, is_some, IfOk, IfErr, IfSome, IsSome};
 ghost use Rattle.std.specs.Simd.Lanes.{Each1};
-ghost use Rattle.px_base.specs.Answer.{GivesOrMemory};
+ghost use Rattle.px_base.specs.Answer.{GivesOrMemory, GivesOr};
 ghost use Rattle.px_types.specs.Integers.{IsInteger};
 ghost use Rattle.px_semantics.specs.Logic.{logic_row, inverse_row, null_row, IsLogic};
 ghost use Rattle.px_semantics.specs.Rows.{IsRowOf, IsBoolean, integer_row, null_count, elementwise};
@@ -19,7 +19,7 @@ pub enum Buffer {
     /// So many nulls.
     Null(u32),
     Boolean(BooleanArray),
-    Text(StringArray),
+    String(StringArray),
     Int8(IntegerArray<i8>),
     Int16(IntegerArray<i16>),
     Int32(IntegerArray<i32>),
@@ -83,7 +83,7 @@ impl Buffer {
         match self {
             Buffer::Null(_) => ValueType::Null,
             Buffer::Boolean(_) => ValueType::Boolean,
-            Buffer::Text(_) => ValueType::String,
+            Buffer::String(_) => ValueType::String,
             Buffer::Int8(_) => ValueType::Int8,
             Buffer::Int16(_) => ValueType::Int16,
             Buffer::Int32(_) => ValueType::Int32,
@@ -103,7 +103,7 @@ impl Buffer {
         match self {
             Buffer::Null(len) => *len,
             Buffer::Boolean(rows) => rows.len() as u32,
-            Buffer::Text(rows) => rows.len() as u32,
+            Buffer::String(rows) => rows.len() as u32,
             Buffer::Int8(rows) => rows.len() as u32,
             Buffer::Int16(rows) => rows.len() as u32,
             Buffer::Int32(rows) => rows.len() as u32,
@@ -124,7 +124,7 @@ impl Buffer {
         match self {
             Buffer::Null(_) => AnyValue::Null,
             Buffer::Boolean(rows) => value!(Boolean, rows, i),
-            Buffer::Text(rows) => value!(String, rows, i),
+            Buffer::String(rows) => value!(String, rows, i),
             Buffer::Int8(rows) => value!(Int8, rows, i),
             Buffer::Int16(rows) => value!(Int16, rows, i),
             Buffer::Int32(rows) => value!(Int32, rows, i),
@@ -144,7 +144,7 @@ impl Buffer {
         match self {
             Buffer::Null(_) => None,
             Buffer::Boolean(rows) => Some(rows.valid()),
-            Buffer::Text(rows) => Some(rows.valid()),
+            Buffer::String(rows) => Some(rows.valid()),
             Buffer::Int8(rows) => Some(rows.valid()),
             Buffer::Int16(rows) => Some(rows.valid()),
             Buffer::Int32(rows) => Some(rows.valid()),
@@ -181,7 +181,7 @@ impl Buffer {
         ensures { IfOk result (λ r. r ≡ map null_row (rows_of self.now)) }
     {
         match self.validity() {
-            Some(valid) => BooleanArray::certain_not(alloc, valid),
+            Some(valid) => BooleanArray::complement_of(alloc, valid),
             None => BooleanArray::non_null(
                 alloc,
                 Bitmap::filled(alloc, self.len() as usize, true)?,
@@ -196,7 +196,7 @@ impl Buffer {
         match self {
             Buffer::Null(len) => Ok(Buffer::Null(*len)),
             Buffer::Boolean(rows) => Ok(Buffer::Boolean(rows.try_clone(alloc)?)),
-            Buffer::Text(rows) => Ok(Buffer::Text(rows.try_clone(alloc)?)),
+            Buffer::String(rows) => Ok(Buffer::String(rows.try_clone(alloc)?)),
             Buffer::Int8(rows) => Ok(Buffer::Int8(rows.try_clone(alloc)?)),
             Buffer::Int16(rows) => Ok(Buffer::Int16(rows.try_clone(alloc)?)),
             Buffer::Int32(rows) => Ok(Buffer::Int32(rows.try_clone(alloc)?)),
@@ -219,7 +219,7 @@ impl Buffer {
         match self {
             Buffer::Null(_) => Ok(Buffer::Null(len)),
             Buffer::Boolean(rows) => Ok(Buffer::Boolean(rows.repeated(alloc, count)?)),
-            Buffer::Text(rows) => Ok(Buffer::Text(rows.repeated(alloc, count)?)),
+            Buffer::String(rows) => Ok(Buffer::String(rows.repeated(alloc, count)?)),
             Buffer::Int8(rows) => Ok(Buffer::Int8(rows.repeated(alloc, count)?)),
             Buffer::Int16(rows) => Ok(Buffer::Int16(rows.repeated(alloc, count)?)),
             Buffer::Int32(rows) => Ok(Buffer::Int32(rows.repeated(alloc, count)?)),
@@ -239,11 +239,8 @@ impl Buffer {
         requires operand { IsBoolean (type_of self.now) ⊎ IsInteger (type_of self.now) }
         requires same { type_of self.now ≡ type_of other.now }
         ensures value_type { IfOk result (λ b. type_of b ≡ type_of self.now) }
-        ensures rows { IfOk result (λ b. Some (rows_of b)
-            ≡ elementwise (logic_row op (type_of self.now)) (rows_of self.now) (rows_of other.now)) }
-        ensures err { IfErr result (λ e. (e ≡ PlanError.OutOfMemory)
-            ⊎ ((e ≡ PlanError.ShapeMismatch)
-            × (elementwise (logic_row op (type_of self.now)) (rows_of self.now) (rows_of other.now) ≡ None))) }
+        ensures rows { GivesOr PlanError.ShapeMismatch (λ b. rows_of b) result
+            (elementwise (logic_row op (type_of self.now)) (rows_of self.now) (rows_of other.now)) }
     {
         match (self, other) {
             (Buffer::Boolean(a), Buffer::Boolean(b)) => Ok(Buffer::Boolean(a.logic(alloc, op, b)?)),

@@ -137,7 +137,7 @@ impl Column {
         }
         let name = SmallStr::new(alloc, name)?;
         let rows = StringArray::from_options(alloc, values)?;
-        Ok(Column::new(name, Buffer::Text(rows)))
+        Ok(Column::new(name, Buffer::String(rows)))
     }
 
     /// The name.

@@ -25,7 +25,7 @@ fn same_number<T: Integer>(a: Option<T>, b: Option<T>) -> bool
     }
 }
 
-fn same_truth(a: Option<bool>, b: Option<bool>) -> bool
+fn same_boolean(a: Option<bool>, b: Option<bool>) -> bool
     ensures { IsTrue result ↔ (boolean_row a ≡ boolean_row b) }
 {
     match (a, b) {
@@ -35,7 +35,7 @@ fn same_truth(a: Option<bool>, b: Option<bool>) -> bool
     }
 }
 
-fn same_text(a: Option<&str>, b: Option<&str>) -> bool
+fn same_string(a: Option<&str>, b: Option<&str>) -> bool
     ensures { IsTrue result ↔ (string_row (option_copied a.entry) ≡ string_row (option_copied b.entry)) }
 {
     match (a, b) {
@@ -60,7 +60,7 @@ fn same_numbers<T: Integer>(a: &IntegerArray<T>, b: &IntegerArray<T>) -> bool
     true
 }
 
-fn same_truths(a: &BooleanArray, b: &BooleanArray) -> bool
+fn same_booleans(a: &BooleanArray, b: &BooleanArray) -> bool
     ensures { IsTrue result ↔ (a.now ≡ b.now) }
 {
     let len = a.len();
@@ -68,14 +68,14 @@ fn same_truths(a: &BooleanArray, b: &BooleanArray) -> bool
         return false;
     }
     for i in 0..len {
-        if !same_truth(a.get(i), b.get(i)) {
+        if !same_boolean(a.get(i), b.get(i)) {
             return false;
         }
     }
     true
 }
 
-fn same_texts(a: &StringArray, b: &StringArray) -> bool
+fn same_strings(a: &StringArray, b: &StringArray) -> bool
     ensures { IsTrue result ↔ (a.now ≡ b.now) }
 {
     let len = a.len();
@@ -83,7 +83,7 @@ fn same_texts(a: &StringArray, b: &StringArray) -> bool
         return false;
     }
     for i in 0..len {
-        if !same_text(a.get(i), b.get(i)) {
+        if !same_string(a.get(i), b.get(i)) {
             return false;
         }
     }
@@ -97,8 +97,8 @@ fn same_rows(a: &Buffer, b: &Buffer) -> bool
 {
     match (a, b) {
         (Buffer::Null(_), Buffer::Null(_)) => a.len() == b.len(),
-        (Buffer::Boolean(a), Buffer::Boolean(b)) => same_truths(a, b),
-        (Buffer::Text(a), Buffer::Text(b)) => same_texts(a, b),
+        (Buffer::Boolean(a), Buffer::Boolean(b)) => same_booleans(a, b),
+        (Buffer::String(a), Buffer::String(b)) => same_strings(a, b),
         (Buffer::Int8(a), Buffer::Int8(b)) => same_numbers(a, b),
         (Buffer::Int16(a), Buffer::Int16(b)) => same_numbers(a, b),
         (Buffer::Int32(a), Buffer::Int32(b)) => same_numbers(a, b),
@@ -153,7 +153,8 @@ fn hash_sample<H: Hasher>(column: &Column, state: &mut H)
 }
 
 impl PartialEq for Column {
-    ghost use Rattle.px_base.specs.Exact.{same, same-partial};
+    ghost use Rattle.px_base.specs.Exact.{same};
+    ghost use Rattle.px_base.proofs.Exact.{same-partial};
     ghost use Rattle.px_column.specs.contracts.column.Column.{the_row};
     ghost use Rattle.std.specs.Prelude.{◌≡◌, IsTrue, ◌↔◌};
 
@@ -170,14 +171,14 @@ impl PartialEq for Column {
 }
 
 impl Eq for Column {
-    ghost use Rattle.px_base.specs.Exact.{same-equivalence};
+    ghost use Rattle.px_base.proofs.Exact.{same-equivalence};
     ghost use Rattle.px_column.specs.contracts.column.Column.{the_row};
 
     ghost laws = { same-equivalence the_row.coded };
 }
 
 impl Hash for Column {
-    ghost use Rattle.px_base.specs.Exact.{same-decides};
+    ghost use Rattle.px_base.proofs.Exact.{same-decides};
     ghost use Rattle.px_column.specs.contracts.column.Column.{the_row};
     ghost use Rattle.px_column.specs.HashInput.{column_input};
     ghost use Rattle.std.specs.Hash.{same_Alike};

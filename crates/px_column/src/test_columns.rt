@@ -21,11 +21,11 @@ fn text(number: i128) -> &'static str {
 }
 
 fn bools(alloc: Global, name: &str, values: &[Option<i128>]) -> Result<Column, PlanError> {
-    let mut truths = Vec::with_capacity(alloc, values.len())?;
+    let mut booleans = Vec::with_capacity(alloc, values.len())?;
     for value in values {
-        truths.push(value.map(|number| number != 0))?;
+        booleans.push(value.map(|number| number != 0))?;
     }
-    Column::new_bool(alloc, name, truths.as_slice())
+    Column::new_bool(alloc, name, booleans.as_slice())
 }
 
 fn push_text(

@@ -5,7 +5,7 @@ use Rattle.serde_json.specs.Written.{has_float}
 use Rattle.serde_json.specs.declared.value.Value.{Value}
 use Rattle.px_base.specs.declared.error.PlanError.{PlanError}
 use Rattle.px_base.specs.declared.error.PlanError.TheVariants.{OutOfMemory, ColumnNotFound, InvalidOperation, Duplicate, ShapeMismatch, InvalidCast, OutOfBounds, TooLong, KernelFailed}
-use Rattle.px_json.specs.Answer.{ShowsOrMemory}
+use Rattle.px_base.specs.Answer.{GivesSeen}
 use Rattle.px_document.specs.Report.{error_data}
 
 no_float_in_error : (e : PlanError) → has_float (error_data e) ≡ false
@@ -20,6 +20,6 @@ no_float_in_error TooLong = refl
 no_float_in_error KernelFailed = refl
 
 -- the same of what a call gave
-pub plain_error_value : (e : PlanError) (r : Result Value PlanError) → ShowsOrMemory view r (error_data e) → IfOk r (λ v. has_float (view v) ≡ false)
+pub plain_error_value : (e : PlanError) (r : Result Value PlanError) → GivesSeen view r (error_data e) → IfOk r (λ v. has_float (view v) ≡ false)
 plain_error_value e (Ok v) is = rw is (no_float_in_error e)
 plain_error_value e (Err f) is = tt

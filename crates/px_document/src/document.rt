@@ -1,8 +1,7 @@
 //! Documents, read from a value or from bytes.
 ghost use Rattle.std.specs.Prelude.{option_map};
 ghost use Rattle.serde_json.specs.View.{view, items_view};
-ghost use Rattle.px_base.specs.Answer.{GivesOrMemory};
-ghost use Rattle.px_json.specs.Answer.{ShowsOrMemory};
+ghost use Rattle.px_base.specs.Answer.{GivesOrMemory, GivesSeen};
 ghost use Rattle.px_document.specs.Document as spec;
 
 use px_column::Frame;
@@ -66,7 +65,7 @@ pub fn document_of_bytes(alloc: Global, bytes: &[u8]) -> Result<Option<Document>
 }
 
 fn value_of_bytes(alloc: Global, bytes: &[u8]) -> Result<Option<Value>, PlanError>
-    ensures { ShowsOrMemory (option_map view) result (spec.value_of_bytes bytes.now) }
+    ensures { GivesSeen (option_map view) result (spec.value_of_bytes bytes.now) }
 {
     match Value::from_slice(alloc, bytes) {
         Ok(value) => Ok(Some(value)),

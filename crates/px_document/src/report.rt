@@ -3,7 +3,7 @@ ghost use Rattle.std.specs.Prelude.{◌≡◌, map, option_map, IfOk, IfSome, fa
 ghost use Rattle.serde_json.specs.View.{view, items_view};
 ghost use Rattle.serde_json.specs.Written.{has_float, items_have_float};
 ghost use Rattle.px_expr.specs.Tree.{tree_of};
-ghost use Rattle.px_json.specs.Answer.{ShowsOrMemory};
+ghost use Rattle.px_base.specs.Answer.{GivesSeen};
 ghost use Rattle.px_document.specs.Report as spec;
 
 use px_column::Column;
@@ -22,7 +22,7 @@ pub fn report_of(
     trees: &[Expr],
     rewrites: u64,
 ) -> Result<Option<Value>, PlanError>
-    ensures value { ShowsOrMemory (option_map view) result
+    ensures value { GivesSeen (option_map view) result
         (spec.report columns.now (map tree_of trees.now) rewrites) }
 
     // It has no float, so its compact text is known.
@@ -43,7 +43,7 @@ fn report_value(
 ) -> Result<Value, PlanError>
     requires columns { items_have_float (items_view columns.items) ≡ false }
     requires trees { items_have_float (items_view trees.items) ≡ false }
-    ensures value { ShowsOrMemory view result
+    ensures value { GivesSeen view result
         (spec.report_data (map view columns.items) rewrites (map view trees.items)) }
     ensures plain { IfOk result (λ v. has_float (view v) ≡ false) }
 {
@@ -53,7 +53,7 @@ fn report_value(
 /// `{"error": variant}`, with `"name"` beside it for an error that keeps a name. The only error is
 /// out of memory.
 pub fn error_value(alloc: Global, error: &PlanError) -> Result<Value, PlanError>
-    ensures value { ShowsOrMemory view result (spec.error_data error.now) }
+    ensures value { GivesSeen view result (spec.error_data error.now) }
 
     // It has no float, so its compact text is known.
     ensures plain { IfOk result (λ v. has_float (view v) ≡ false) }
@@ -62,7 +62,7 @@ pub fn error_value(alloc: Global, error: &PlanError) -> Result<Value, PlanError>
 }
 
 fn error_in(alloc: Global, error: &PlanError) -> Result<Value, PlanError>
-    ensures { ShowsOrMemory view result (spec.error_data error.now) }
+    ensures { GivesSeen view result (spec.error_data error.now) }
 {
     match error {
         PlanError::OutOfMemory => plain_error(alloc, "OutOfMemory"),
@@ -78,14 +78,14 @@ fn error_in(alloc: Global, error: &PlanError) -> Result<Value, PlanError>
 }
 
 fn plain_error(alloc: Global, value_type: &str) -> Result<Value, PlanError>
-    ensures { ShowsOrMemory view result (spec.plain_error value_type.now) }
+    ensures { GivesSeen view result (spec.plain_error value_type.now) }
 {
     let value_type = text_value(alloc, value_type)?;
     single_member(alloc, "error", value_type)
 }
 
 fn named_error(alloc: Global, value_type: &str, name: &str) -> Result<Value, PlanError>
-    ensures { ShowsOrMemory view result (spec.named_error value_type.now name.now) }
+    ensures { GivesSeen view result (spec.named_error value_type.now name.now) }
 {
     Ok(json!(in alloc; {"error": value_type, "name": name})?)
 }
@@ -94,7 +94,7 @@ fn named_error(alloc: Global, value_type: &str, name: &str) -> Result<Value, Pla
 /// error is out of memory.
 pub fn line(alloc: Global, value: &Value) -> Result<Vec<u8>, PlanError>
     requires { has_float (view value.now) ≡ false }
-    ensures { ShowsOrMemory (λ text. text.items) result (spec.line (view value.now)) }
+    ensures { GivesSeen (λ text. text.items) result (spec.line (view value.now)) }
 {
     let mut text = value.to_vec(alloc)?;
     text.push(b'\n')?;

@@ -6,7 +6,7 @@ use Rattle.px_base.specs.declared.error.PlanError.{PlanError}
 use Rattle.px_base.specs.declared.list.List.{List as Entries}
 use Rattle.px_base.specs.declared.error.PlanError.TheVariants.{OutOfMemory, ShapeMismatch}
 use Rattle.px_semantics.specs.Frames.{heights}
-use Rattle.px_semantics.specs.Rows.{TypedRows, Contents, broadcast_length}
+use Rattle.px_semantics.specs.Rows.{TypedRows, Contents, broadcast_length, broadcast_lengths}
 use Rattle.px_semantics.proofs.Joins.{broadcast_same, broadcast_left, broadcast_right, broadcast_none}
 use Rattle.px_semantics.proofs.LawLemmas.{by_eq, broadcast_commutes, broadcast_associates}
 use Rattle.px_expr.specs.declared.context.Context.{Context}
@@ -14,7 +14,7 @@ use Rattle.px_expr.specs.declared.context.Context.TheVariants.{Select}
 use Rattle.px_expr.specs.Kernel.{Kernel}
 use Rattle.px_expr.specs.Tree.{Tree, Trees, none, more, trees}
 use Rattle.px_meaning.specs.Faults.{HasFault, SomeHasFault, of_first, of_rest, HasUnevenInputs, lengths}
-use Rattle.px_meaning.specs.Mean.{all_of, rows, named, mean, broadcast_length_all, as_answer, answer_name, lined_up, mean_list}
+use Rattle.px_meaning.specs.Mean.{all_of, rows, named, mean, as_answer, answer_name, lined_up, mean_list}
 use Rattle.px_meaning.specs.Names.{name}
 use Rattle.px_meaning.specs.Schema.{Fits}
 use Rattle.px_meaning.proofs.Nothing.{fault-nothing}
@@ -35,20 +35,20 @@ use Rattle.px_eval.specs.Fills.{HoldsRoots, RootHasFault}
 broadcast_one : (m : ℕ) → broadcast_length m 1 ≡ Some m
 broadcast_one m = broadcast_commutes m 1 ∙ broadcast_left 1 m refl
 
-joined_cons : (m : ℕ) (ns : List ℕ) → broadcast_length_all (m ∷ ns) ≡ option_and_then (broadcast_length m) (broadcast_length_all ns)
+joined_cons : (m : ℕ) (ns : List ℕ) → broadcast_lengths (m ∷ ns) ≡ option_and_then (broadcast_length m) (broadcast_lengths ns)
 joined_cons m [] = sym (broadcast_one m)
 joined_cons m (n ∷ ns) = refl
 
-pub joined_start : (ns : List ℕ) → option_and_then (broadcast_length 1) (broadcast_length_all ns) ≡ broadcast_length_all ns
-joined_start ns = go (broadcast_length_all ns)
+pub joined_start : (ns : List ℕ) → option_and_then (broadcast_length 1) (broadcast_lengths ns) ≡ broadcast_lengths ns
+joined_start ns = go (broadcast_lengths ns)
   where
     go : (o : Option ℕ) → option_and_then (broadcast_length 1) o ≡ o
     go None = refl
     go (Some n) = broadcast_left 1 n refl
 
 pub joined_step :
-    (a m : ℕ) (ns : List ℕ) → option_and_then (broadcast_length a) (broadcast_length_all (m ∷ ns)) ≡ option_and_then (λ k. option_and_then (broadcast_length k) (broadcast_length_all ns)) (broadcast_length a m)
-joined_step a m ns = ap (option_and_then (broadcast_length a)) (joined_cons m ns) ∙ go (broadcast_length_all ns)
+    (a m : ℕ) (ns : List ℕ) → option_and_then (broadcast_length a) (broadcast_lengths (m ∷ ns)) ≡ option_and_then (λ k. option_and_then (broadcast_length k) (broadcast_lengths ns)) (broadcast_length a m)
+joined_step a m ns = ap (option_and_then (broadcast_length a)) (joined_cons m ns) ∙ go (broadcast_lengths ns)
   where
     nothing : (o : Option ℕ) → option_and_then (λ (k : ℕ). option_and_then (broadcast_length k) None) o ≡ None
     nothing None = refl
@@ -61,30 +61,30 @@ joined_step a m ns = ap (option_and_then (broadcast_length a)) (joined_cons m ns
 -- one more answer joins the length so far
 pub joined_more :
     (answers : List Answer) (i : ℕ) (a : Answer) (j k : ℕ) (total : Option ℕ) → i < length answers → a ≡ get_or answers i a → broadcast_length j (length (values_of a.rows).rows) ≡ Some k →
-    option_and_then (broadcast_length j) (broadcast_length_all (heights (map column_of (drop i answers)))) ≡ total → option_and_then (broadcast_length k) (broadcast_length_all (heights (map column_of (drop (i + 1) answers)))) ≡ total
+    option_and_then (broadcast_length j) (broadcast_lengths (heights (map column_of (drop i answers)))) ≡ total → option_and_then (broadcast_length k) (broadcast_lengths (heights (map column_of (drop (i + 1) answers)))) ≡ total
 joined_more answers i a j k total h is joins e =
     let next : drop i answers ≡ a ∷ drop (i + 1) answers = drop-cons answers i a h ∙ (ap (λ (z : Answer). z ∷ drop (suc i) answers) (sym is) ∙ ap (λ (n : ℕ). a ∷ drop n answers) (sym (add-one i))) in
     let ns = heights (map column_of (drop (i + 1) answers)) in
     let s = joined_step j (length (values_of a.rows).rows) ns in
-    let t : option_and_then (broadcast_length j) (broadcast_length_all (heights (map column_of (a ∷ drop (i + 1) answers)))) ≡ total = subst (λ (z : List Answer). option_and_then (broadcast_length j) (broadcast_length_all (heights (map column_of z))) ≡ total) next e in
-    ap (option_and_then (λ m. option_and_then (broadcast_length m) (broadcast_length_all ns))) (sym joins) ∙ (sym s ∙ t)
+    let t : option_and_then (broadcast_length j) (broadcast_lengths (heights (map column_of (a ∷ drop (i + 1) answers)))) ≡ total = subst (λ (z : List Answer). option_and_then (broadcast_length j) (broadcast_lengths (heights (map column_of z))) ≡ total) next e in
+    ap (option_and_then (λ m. option_and_then (broadcast_length m) (broadcast_lengths ns))) (sym joins) ∙ (sym s ∙ t)
 
 -- a length that does not join
 pub joined_not :
     (answers : List Answer) (i : ℕ) (a : Answer) (j : ℕ) (total : Option ℕ) → i < length answers → a ≡ get_or answers i a → broadcast_length j (length (values_of a.rows).rows) ≡ None →
-    option_and_then (broadcast_length j) (broadcast_length_all (heights (map column_of (drop i answers)))) ≡ total → total ≡ None
+    option_and_then (broadcast_length j) (broadcast_lengths (heights (map column_of (drop i answers)))) ≡ total → total ≡ None
 joined_not answers i a j total h is joins e =
     let next : drop i answers ≡ a ∷ drop (i + 1) answers = drop-cons answers i a h ∙ (ap (λ (z : Answer). z ∷ drop (suc i) answers) (sym is) ∙ ap (λ (n : ℕ). a ∷ drop n answers) (sym (add-one i))) in
     let ns = heights (map column_of (drop (i + 1) answers)) in
     let s = joined_step j (length (values_of a.rows).rows) ns in
-    let t : option_and_then (broadcast_length j) (broadcast_length_all (heights (map column_of (a ∷ drop (i + 1) answers)))) ≡ total = subst (λ (z : List Answer). option_and_then (broadcast_length j) (broadcast_length_all (heights (map column_of z))) ≡ total) next e in
-    sym t ∙ (s ∙ ap (option_and_then (λ m. option_and_then (broadcast_length m) (broadcast_length_all ns))) joins)
+    let t : option_and_then (broadcast_length j) (broadcast_lengths (heights (map column_of (a ∷ drop (i + 1) answers)))) ≡ total = subst (λ (z : List Answer). option_and_then (broadcast_length j) (broadcast_lengths (heights (map column_of z))) ≡ total) next e in
+    sym t ∙ (s ∙ ap (option_and_then (λ m. option_and_then (broadcast_length m) (broadcast_lengths ns))) joins)
 
 -- all answers broadcast
 pub joined_end :
-    (answers : List Answer) (i j : ℕ) (total : Option ℕ) → length answers ≤ i → option_and_then (broadcast_length j) (broadcast_length_all (heights (map column_of (drop i answers)))) ≡ total → Some j ≡ total
+    (answers : List Answer) (i j : ℕ) (total : Option ℕ) → length answers ≤ i → option_and_then (broadcast_length j) (broadcast_lengths (heights (map column_of (drop i answers)))) ≡ total → Some j ≡ total
 joined_end answers i j total h e =
-    let t : option_and_then (broadcast_length j) (broadcast_length_all []) ≡ total = subst (λ (z : List Answer). option_and_then (broadcast_length j) (broadcast_length_all (heights (map column_of z))) ≡ total) (drop_all answers i h) e in
+    let t : option_and_then (broadcast_length j) (broadcast_lengths []) ≡ total = subst (λ (z : List Answer). option_and_then (broadcast_length j) (broadcast_lengths (heights (map column_of z))) ≡ total) (drop_all answers i h) e in
     sym (broadcast_one j) ∙ t
   where
     drop_all : (xs : List Answer) (i : ℕ) → length xs ≤ i → drop i xs ≡ []
@@ -120,11 +120,11 @@ fit_again k n (c ∷ cs) h (one_more f all) = one_more (turn f h) (fit_again k n
     turn (inr e) (inl s) = inl (e ∙ s)
     turn (inr e) (inr s) = inr (e ∙ s)
 
-pub all_fit : (n : ℕ) (cs : List Contents) → broadcast_length_all (heights cs) ≡ Some n → AllFit n cs
+pub all_fit : (n : ℕ) (cs : List Contents) → broadcast_lengths (heights cs) ≡ Some n → AllFit n cs
 all_fit n [] e = no_more
-all_fit n (c ∷ cs) e = go (λ k s. all_fit k cs s) (broadcast_length_all (heights cs)) refl (sym (joined_cons (length c.values.rows) (heights cs)) ∙ e)
+all_fit n (c ∷ cs) e = go (λ k s. all_fit k cs s) (broadcast_lengths (heights cs)) refl (sym (joined_cons (length c.values.rows) (heights cs)) ∙ e)
   where
-    go : ((k : ℕ) → broadcast_length_all (heights cs) ≡ Some k → AllFit k cs) → (o : Option ℕ) → broadcast_length_all (heights cs) ≡ o → option_and_then (broadcast_length (length c.values.rows)) o ≡ Some n → AllFit n (c ∷ cs)
+    go : ((k : ℕ) → broadcast_lengths (heights cs) ≡ Some k → AllFit k cs) → (o : Option ℕ) → broadcast_lengths (heights cs) ≡ o → option_and_then (broadcast_length (length c.values.rows)) o ≡ Some n → AllFit n (c ∷ cs)
     go rest None s f = cc
     go rest (Some k) s f =
         let (p, q) = joined_parts (length c.values.rows) k n f in
@@ -259,7 +259,7 @@ answer_again context n [] = refl
 answer_again context n (c ∷ cs) = ap (λ ds. as_answer context n c ∷ ds) (answer_again context n cs)
 
 lined_answer : (context : Context) (cs : List Contents) → lined_up context cs ≡ lined_up Select (map (as_answered context) cs)
-lined_answer context cs = go (broadcast_length_all (heights cs)) ∙ ap (option_map (λ n. map (as_answer Select n) (map (as_answered context) cs))) (ap broadcast_length_all (sym (answer_heights context cs)))
+lined_answer context cs = go (broadcast_lengths (heights cs)) ∙ ap (option_map (λ n. map (as_answer Select n) (map (as_answered context) cs))) (ap broadcast_lengths (sym (answer_heights context cs)))
   where
     go : (o : Option ℕ) → option_map (λ n. map (as_answer context n) cs) o ≡ option_map (λ n. map (as_answer Select n) (map (as_answered context) cs)) o
     go None = refl
@@ -309,10 +309,10 @@ module _ (kernels : List Kernel) (frame : List Contents) where
   same_heights [] = refl
   same_heights (a ∷ answers) = ap (λ ns. length (values_of a.rows).rows ∷ ns) (same_heights answers)
 
-  no_length : (cs : List Contents) → lined_up Select cs ≡ None → broadcast_length_all (heights cs) ≡ None
-  no_length cs e = go (broadcast_length_all (heights cs)) refl
+  no_length : (cs : List Contents) → lined_up Select cs ≡ None → broadcast_lengths (heights cs) ≡ None
+  no_length cs e = go (broadcast_lengths (heights cs)) refl
     where
-      go : (o : Option ℕ) → broadcast_length_all (heights cs) ≡ o → broadcast_length_all (heights cs) ≡ None
+      go : (o : Option ℕ) → broadcast_lengths (heights cs) ≡ o → broadcast_lengths (heights cs) ≡ None
       go None s = s
       go (Some n) s = let f : lined_up Select cs ≡ Some _ = ap (option_map _) s in cc
 
@@ -323,7 +323,7 @@ module _ (kernels : List Kernel) (frame : List Contents) where
   uneven_answers answers ts e n = (
     map (λ (a : Answer). values_of a.rows) answers,
     sym (ap all_of e) ∙ all_rows answers,
-    sym (ap broadcast_length_all (same_heights answers)) ∙ no_length (map column_of answers) n,
+    sym (ap broadcast_lengths (same_heights answers)) ∙ no_length (map column_of answers) n,
   )
 
   -- where a tree has a fault the list means nothing
@@ -377,9 +377,9 @@ module _ (kernels : List Kernel) (frame : List Contents) (items : List AExpr) (c
   answer_rows ts a d = a.rows ∙ held_rows kernels frame items (places ns) ts table a.holds d
 
   pub evaluated_ok :
-      (r : Result (Entries Contents) PlanError) → AreAnswers → IfOk r (λ l. lined_up Select (map column_of answers) ≡ Some l.entries) →
+      (r : Result (Entries Contents) PlanError) → AreAnswers → IfOk r (λ l. Some l.entries ≡ lined_up Select (map column_of answers)) →
       IfOk r (λ l. (ts : List Tree) → DenoteTrees items ns ts → mean_list kernels frame context ts ≡ Some l.entries)
-  evaluated_ok (Ok l) a lined = λ ts d. listed_mean kernels frame context answers ts (answer_rows ts a d) (a.names ts d) ∙ lined
+  evaluated_ok (Ok l) a lined = λ ts d. listed_mean kernels frame context answers ts (answer_rows ts a d) (a.names ts d) ∙ sym lined
   evaluated_ok (Err e) a lined = tt
 
   pub evaluated_err :

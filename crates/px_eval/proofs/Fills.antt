@@ -14,7 +14,7 @@ use Rattle.px_meaning.specs.Faults.{HasFault, SomeHasFault, OwnFault, own, of_in
 use Rattle.px_meaning.specs.Mean.{all_of, node_rows, rows}
 use Rattle.px_meaning.specs.Schema.{Fits, schema_of}
 use Rattle.px_expr.specs.Plan.{Catalog}
-use Rattle.px_meaning.specs.Signatures.{Known}
+use Rattle.px_meaning.specs.Signatures.{OfType}
 use Rattle.px_meaning.proofs.Means.{all-typed}
 use Rattle.px_meaning.proofs.Typing.{Has, HaveAll, has, have_more, Has-HasType, HasType-Has}
 use Rattle.px_arena.specs.declared.node.AExpr.{AExpr}
@@ -36,7 +36,7 @@ use Rattle.px_eval.proofs.Ordering.{order_bound}
 pub record HasParts (c : Catalog) (n : Root) (us : Trees) (k : ValueType) : Type 0 where
   pub types : List ValueType
   pub inputs : HaveAll c us types
-  pub takes : resolve c n (map Known types) ≡ Ok (record { inputs = types; result = k })
+  pub takes : resolve c n (map OfType types) ≡ Ok (record { inputs = types; result = k })
 
 pub has_parts : (c : Catalog) (n : Root) (us : Trees) (k : ValueType) → Has c (tree n us) k → HasParts c n us k
 has_parts c _ _ k (has {n} {us} {ks} free all takes) = record { types = ks; inputs = all; takes = takes }

@@ -1,6 +1,7 @@
 -- The answers of kernels on buffers, from their types and their rows.
 use Rattle.std.proofs.Common.{◌≡◌, ◌∙◌, ◌⊎◌, ap, Some, None}
 use Rattle.std.specs.Prelude.{Result, Ok, Err, IfOk, IfErr}
+use Rattle.px_base.specs.Answer.{GivesOr}
 use Rattle.px_base.specs.declared.error.PlanError.{PlanError}
 use Rattle.px_base.specs.declared.error.PlanError.TheVariants.{OutOfMemory, ShapeMismatch}
 use Rattle.px_types.specs.declared.operator.Operator.{Operator}
@@ -21,13 +22,7 @@ answer_is a (Ok b) h e = buffer_is a b h e
 answer_is a (Err x) h e = tt
 
 pub logic_answer :
-    (o : Operator) (a b : TypedRows) (r : Result Buffer PlanError) → IfOk r (λ c. type_of c ≡ a.value_type) → IfOk r (λ c. Some (rows_of c) ≡ elementwise (logic_row o a.value_type) a.rows b.rows) →
-    IfOk r (λ c. Some (values_of c) ≡ logic_rows o a b)
+    (o : Operator) (a b : TypedRows) (r : Result Buffer PlanError) → IfOk r (λ c. type_of c ≡ a.value_type)
+    → GivesOr ShapeMismatch rows_of r (elementwise (logic_row o a.value_type) a.rows b.rows) → GivesOr ShapeMismatch values_of r (logic_rows o a b)
 logic_answer o a b (Ok c) h e = logic_gives o a b (values_of c) h e
-logic_answer o a b (Err x) h e = tt
-
-pub logic_refusal :
-    (o : Operator) (a b : TypedRows) (r : Result Buffer PlanError) → IfErr r (λ e. (e ≡ OutOfMemory) ⊎ ((e ≡ ShapeMismatch) × (elementwise (logic_row o a.value_type) a.rows b.rows ≡ None))) →
-    IfErr r (λ e. (e ≡ OutOfMemory) ⊎ ((e ≡ ShapeMismatch) × (logic_rows o a b ≡ None)))
-logic_refusal o a b (Ok c) h = tt
-logic_refusal o a b (Err x) h = refused x (logic_none o a b) h
+logic_answer o a b (Err x) h e = refused x (logic_none o a b) e

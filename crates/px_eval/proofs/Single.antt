@@ -2,6 +2,7 @@
 use Rattle.std.proofs.Common.{◌≡◌, ◌⊎◌, inl, inr, ◌<◌, ◌||◌, ◌&&◌, ℕ, zero, suc, List, [], ◌∷◌, map, length, Option, Some, None, Result, Ok, Err, Bool, true, false, refl, sym, ◌∙◌, ap, subst, arith}
 use Rattle.std.specs.Prelude.{option_and_then, option_map, IfOk, IfErr, IfSome, IsSome, is_some, slice_get}
 use Rattle.std.specs.Simd.Lanes.{Each1}
+use Rattle.px_base.specs.Answer.{GivesOr}
 use Rattle.px_base.specs.declared.error.PlanError.{PlanError}
 use Rattle.px_base.specs.declared.error.PlanError.TheVariants.{OutOfMemory, ShapeMismatch, InvalidCast, InvalidOperation}
 use Rattle.px_semantics.specs.Casts.{HasCast, IsScalar, cast_to, cast_rows}
@@ -34,7 +35,7 @@ use Rattle.px_meaning.specs.Schema.{Fits, schema_of, column_at}
 use Rattle.px_meaning.specs.Literals.{literal_rows}
 use Rattle.px_semantics.specs.Frames.{column_named}
 use Rattle.px_expr.specs.declared.literal.LiteralValue.{LiteralValue}
-use Rattle.px_meaning.specs.Signatures.{group_of, group_type, boolean_type, cast_type, is_type, is_castable, literal_type, Known, Signature, signature, function_signature}
+use Rattle.px_meaning.specs.Signatures.{group_of, group_type, boolean_type, cast_type, is_type, is_castable, literal_type, OfType, Signature, signature, function_signature}
 use Rattle.px_meaning.proofs.Answers.{given-parts, from_option}
 use Rattle.px_meaning.proofs.Means.{one_column, two_columns, three_columns}
 use Rattle.px_meaning.proofs.Nothing.{explains, all_of-is}
@@ -49,7 +50,7 @@ use Rattle.px_column.specs.declared.buffer.Buffer.{Buffer}
 use Rattle.px_kernels.specs.Buffers as buffers
 use Rattle.px_eval.specs.declared.table.Rows.{Rows}
 use Rattle.px_eval.specs.Table.{rows_at, values_of}
-use Rattle.px_eval.specs.Own.{frame_catalog, input_rows, IsReady, IsAnswer, IsReason, IsOwned, GivesRows, fault_of, node_gives, held_cast, TakesTwo, TakesOne, IsFunction, IsOfOne}
+use Rattle.px_eval.specs.Own.{frame_catalog, input_rows, IsReady, IsAnswer, IsReason, IsOwned, fault_of, node_gives, cast_at, TakesTwo, TakesOne, IsFunction, IsOfOne}
 
 -- the only fault of a node itself
 only_fault : (kernels : List Kernel) (frame : List Contents) (n : Root) (ms : List (Option TypedRows)) (f : PlanError) → OwnFault kernels frame n ms f → f ≡ fault_of n
@@ -86,14 +87,14 @@ module _ (kernels : List Kernel) (frame : List Contents) (fits : Fits frame (sch
       subst (λ (z : PlanError). OwnFault kernels frame (root_of x) (input_rows table x) z) (only_fault kernels frame (root_of x) (input_rows table x) f o) o
 
   pub owned_ok :
-      (x : AExpr) (r : Result Rows PlanError) (c : Result Buffer PlanError) (w : Option TypedRows) (f : PlanError) → IsOwned r c → GivesRows f c w → Case kernels frame table x w f →
+      (x : AExpr) (r : Result Rows PlanError) (c : Result Buffer PlanError) (w : Option TypedRows) (f : PlanError) → IsOwned r c → GivesOr f buffers.values_of c w → Case kernels frame table x w f →
       IfOk r (λ a. IsAnswer kernels frame table x a)
-  owned_ok x (Ok r) (Ok c) w f o g h = h.gives ∙ (g ∙ ap Some (sym o))
+  owned_ok x (Ok r) (Ok c) w f o g h = h.gives ∙ (sym g ∙ ap Some (sym o))
   owned_ok x (Ok r) (Err e) w f o g h = absurd o
   owned_ok x (Err e) c w f o g h = tt
 
   pub owned_err :
-      (x : AExpr) (r : Result Rows PlanError) (c : Result Buffer PlanError) (w : Option TypedRows) (f : PlanError) → IsReady kernels frame table x → IsOwned r c → GivesRows f c w →
+      (x : AExpr) (r : Result Rows PlanError) (c : Result Buffer PlanError) (w : Option TypedRows) (f : PlanError) → IsReady kernels frame table x → IsOwned r c → GivesOr f buffers.values_of c w →
       Case kernels frame table x w f → IfErr r (λ e. IsReason kernels frame table x e)
   owned_err x (Ok r) c w f ready o g h = tt
   owned_err x (Err e) (Ok c) w f ready o g h = inl o
@@ -219,10 +220,10 @@ module _ (kernels : List Kernel) (frame : List Contents) (fits : Fits frame (sch
   pub record CastCase (x : AExpr) (input : ℕ) (dtype : DataType) (options : CastOptions) : Type 0 where
     pub filled : IsSome (rows_at table input)
     pub castable : IfSome (rows_at table input) (λ a. HasCast a.value_type (value_type_of dtype))
-    pub case : Case kernels frame table x (held_cast table input options dtype) InvalidCast
+    pub case : Case kernels frame table x (cast_at table input options dtype) InvalidCast
 
-  cast_at : (input : Node) (dtype : DataType) (options : CastOptions) → IsReady kernels frame table (ir.Cast input dtype options) → CastCase (ir.Cast input dtype options) input.0 dtype options
-  cast_at input dtype options ready =
+  cast_case_at : (input : Node) (dtype : DataType) (options : CastOptions) → IsReady kernels frame table (ir.Cast input dtype options) → CastCase (ir.Cast input dtype options) input.0 dtype options
+  cast_case_at input dtype options ready =
       let (j, f, g) = cast-types (frame_catalog kernels frame) dtype options ready.types ready.value_type ready.takes in
       let (a, i, ka) = one_column j ready.types ready.columns f ready.typed in
       let are = all_of-is (rows_at table input.0 ∷ []) ready.columns ready.all ∙ ap (map Some) i in
@@ -239,7 +240,7 @@ module _ (kernels : List Kernel) (frame : List Contents) (fits : Fits frame (sch
 
   pub cast_case : (x : AExpr) (input : Node) (dtype : DataType) (options : CastOptions) → x ≡ ir.Cast input dtype options → IsReady kernels frame table x → CastCase x input.0 dtype options
   cast_case x input dtype options is ready =
-      subst (λ (z : AExpr). CastCase z input.0 dtype options) (sym is) (cast_at input dtype options (subst (λ (z : AExpr). IsReady kernels frame table z) is ready))
+      subst (λ (z : AExpr). CastCase z input.0 dtype options) (sym is) (cast_case_at input dtype options (subst (λ (z : AExpr). IsReady kernels frame table z) is ready))
 
   -- the error of a call that gives what the node gives
   pub given_err :
@@ -315,7 +316,7 @@ module _ (kernels : List Kernel) (frame : List Contents) (fits : Fits frame (sch
   unfolding signature
   one_takes f ks j k t e =
       let s : Signature = record { inputs = ks; result = k } in
-      (s, subst (λ (z : List ValueType). function_signature f (map Known z) ≡ Some s) e (from_option InvalidOperation (function_signature f (map Known ks)) s t))
+      (s, subst (λ (z : List ValueType). function_signature f (map OfType z) ≡ Some s) e (from_option InvalidOperation (function_signature f (map OfType ks)) s t))
 
   -- a function of one input, and that input
   pub record OneInput (x : AExpr) (f : FunctionExpr) : Type 0 where
@@ -444,14 +445,19 @@ own_type options to a is typed =
 
 pub shared_cast :
     (options : CastOptions) (to : DataType) (w : Option TypedRows) (a : TypedRows) (r : Result Rows PlanError) → w ≡ Some a → value_type_of to ≡ Some a.value_type → Each1 (IsRowOf a.value_type) a.rows →
-    IfOk r (λ s. w ≡ Some (values_of s)) → IfOk r (λ s. option_and_then (cast_to options to) w ≡ Some (values_of s))
-shared_cast options to w a (Ok s) e same typed h = ap (option_and_then (cast_to options to)) e ∙ (own_type options to a same typed ∙ (sym e ∙ h))
-shared_cast options to w a (Err f) e same typed h = tt
+    IfOk r (λ s. w ≡ Some (values_of s)) → IfErr r (λ x. x ≡ OutOfMemory) → GivesOr InvalidCast values_of r (option_and_then (cast_to options to) w)
+shared_cast options to w a (Ok s) e same typed h out = sym (ap (option_and_then (cast_to options to)) e ∙ (own_type options to a same typed ∙ (sym e ∙ h)))
+shared_cast options to w a (Err f) e same typed h out = inl out
 
 -- what was shared is what the place holds
 pub shared_ok : (w o : Option TypedRows) (r : Result Rows PlanError) → w ≡ o → IfOk r (λ a. o ≡ Some (values_of a)) → IfOk r (λ a. w ≡ Some (values_of a))
 shared_ok w o (Ok r) same h = same ∙ h
 shared_ok w o (Err e) same h = tt
+
+-- what a call gives is what the node gives
+pub cast_ok : (w o : Option TypedRows) (r : Result Rows PlanError) → w ≡ o → GivesOr InvalidCast values_of r o → IfOk r (λ a. w ≡ Some (values_of a))
+cast_ok w o (Ok r) same h = same ∙ sym h
+cast_ok w o (Err e) same h = tt
 
 boolean_only : (k j : ValueType) → boolean_type k ≡ Some j → k ≡ value_type.Boolean
 boolean_only value_type.Boolean j e = refl
@@ -477,10 +483,3 @@ unfolding logic_rows
 logical_or a b j e =
     let k = boolean_only a.value_type j e in
     subst (λ (z : ValueType). broadcast_rows z (logic_row op.Or z) a.rows b.rows ≡ broadcast_rows z (logic_row op.LogicalOr z) a.rows b.rows) (sym k) refl
-
-pub gives_rows :
-    (r : Result Buffer PlanError) (f : PlanError) (w w' : Option TypedRows) → w ≡ w' → IfOk r (λ c. Some (buffers.values_of c) ≡ w) →
-    IfErr r (λ e. (e ≡ OutOfMemory) ⊎ ((e ≡ f) × (w ≡ None))) → GivesRows f r w'
-gives_rows (Ok c) f w w' same ok err = sym same ∙ sym ok
-gives_rows (Err e) f w w' same ok (inl h) = inl h
-gives_rows (Err e) f w w' same ok (inr (h, n)) = inr (h, sym same ∙ n)

@@ -20,7 +20,7 @@ use Rattle.px_meaning.specs.Mean.{all_of, node_rows}
 use Rattle.px_meaning.specs.Schema.{schema_of}
 use Rattle.px_expr.specs.Kernel.{Kernel}
 use Rattle.px_expr.specs.Plan.{Catalog, catalog_of}
-use Rattle.px_meaning.specs.Signatures.{Known, Signature, group_of, group_type, function_signature}
+use Rattle.px_meaning.specs.Signatures.{OfType, Signature, group_of, group_type, function_signature}
 use Rattle.px_meaning.proofs.Means.{AreColumns}
 use Rattle.px_arena.specs.declared.node.AExpr.{AExpr}
 use Rattle.px_arena.specs.Denotes.{root_of, inputs_of}
@@ -44,7 +44,7 @@ pub record IsReady (kernels : List Kernel) (frame : List Contents) (table : List
   pub types : List ValueType
   pub value_type : ValueType
   pub columns : List TypedRows
-  pub takes : resolve (frame_catalog kernels frame) (root_of x) (map Known types) ≡ Ok (record { inputs = types; result = value_type })
+  pub takes : resolve (frame_catalog kernels frame) (root_of x) (map OfType types) ≡ Ok (record { inputs = types; result = value_type })
   pub all : all_of (input_rows table x) ≡ Some columns
   pub typed : AreColumns types columns
 
@@ -60,19 +60,14 @@ IsAnswer kernels frame table x r = node_gives kernels frame table x ≡ Some (va
 abbrev pub IsReason : List Kernel → List Contents → List (Option TypedRows) → AExpr → PlanError → Type 0
 IsReason kernels frame table x e = (e ≡ OutOfMemory) ⊎ OwnFault kernels frame (root_of x) (input_rows table x) e
 
--- the rows that are expected, out of memory, or the fault where none are expected
-abbrev pub GivesRows : PlanError → Result Buffer PlanError → Option TypedRows → Type 0
-GivesRows fault (Ok b) expected = expected ≡ Some (buffers.values_of b)
-GivesRows fault (Err e) expected = (e ≡ OutOfMemory) ⊎ ((e ≡ fault) × (expected ≡ None))
-
 -- the only fault of a node itself
 abbrev pub fault_of : Root → PlanError
 fault_of (root.Cast dtype options) = InvalidCast
 fault_of _ = ShapeMismatch
 
 -- what the place holds, in another type
-abbrev pub held_cast : List (Option TypedRows) → ℕ → CastOptions → DataType → Option TypedRows
-held_cast table n options to = option_and_then (cast_to options to) (rows_at table n)
+abbrev pub cast_at : List (Option TypedRows) → ℕ → CastOptions → DataType → Option TypedRows
+cast_at table n options to = option_and_then (cast_to options to) (rows_at table n)
 
 -- the operator takes two columns of such types
 pub record TakesTwo (o : Operator) (a b : ValueType) : Type 0 where
@@ -82,7 +77,7 @@ pub record TakesTwo (o : Operator) (a b : ValueType) : Type 0 where
 
 -- the function takes one column of such a type
 abbrev pub TakesOne : FunctionExpr → ValueType → Type 0
-TakesOne f k = (s : Signature) × (function_signature f (Known k ∷ []) ≡ Some s)
+TakesOne f k = (s : Signature) × (function_signature f (OfType k ∷ []) ≡ Some s)
 
 -- the rows of the buffer, or its error; out of memory too
 abbrev pub IsOwned : Result Rows PlanError → Result Buffer PlanError → Type 0

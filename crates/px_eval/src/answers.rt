@@ -1,10 +1,11 @@
 //! Rows under names, as columns of one length.
 ghost use Rattle.std.specs.Prelude.{◌≡◌, ◌⊎◌, ℕ, List, map, Some, None, IfOk, IfErr, IsSome};
-ghost use Rattle.px_base.specs.Answer.{GivesOrMemory};
+ghost use Rattle.px_base.specs.Answer.{GivesOrMemory, GivesOr};
 ghost use Rattle.px_semantics.specs.Frames.{heights};
+ghost use Rattle.px_semantics.specs.Rows.{broadcast_lengths};
 ghost use Rattle.px_expr.specs.declared.context.Context.TheVariants.{Select};
 ghost use Rattle.px_expr.specs.Tree.{Tree};
-ghost use Rattle.px_meaning.specs.Mean.{broadcast_length_all, as_answer, answer_name, lined_up};
+ghost use Rattle.px_meaning.specs.Mean.{as_answer, answer_name, lined_up};
 ghost use Rattle.px_meaning.specs.Names.{name};
 ghost use Rattle.px_arena.specs.Denotes.{Denotes, IsIn};
 ghost use Rattle.px_rules.specs.Plan.{places};
@@ -89,7 +90,7 @@ pub fn answers_of<'f>(
 
 /// The length to which the lengths broadcast.
 fn joined_length(answers: &[Answer<'_>]) -> Option<u32>
-    ensures { result ≡ broadcast_length_all (heights (map column_of answers.now)) }
+    ensures { result ≡ broadcast_lengths (heights (map column_of answers.now)) }
 {
     let mut broadcast_length = 1;
     for answer in answers {
@@ -99,7 +100,7 @@ fn joined_length(answers: &[Answer<'_>]) -> Option<u32>
 }
 
 /// The column of the answer, its one row so often where it has another length.
-fn stretched(alloc: Global, answer: Answer<'_>, len: u32) -> Result<Column, PlanError>
+fn broadcast_answer(alloc: Global, answer: Answer<'_>, len: u32) -> Result<Column, PlanError>
     requires { FitsLength len (column_of answer) }
     ensures { GivesOrMemory result (as_answer Select len (column_of answer.entry)) }
 {
@@ -112,22 +113,21 @@ fn stretched(alloc: Global, answer: Answer<'_>, len: u32) -> Result<Column, Plan
 }
 
 fn stretch_all(alloc: Global, answers: Vec<Answer<'_>>, len: u32) -> Result<ColumnList, PlanError>
-    requires { broadcast_length_all (heights (map column_of answers.items)) ≡ Some len }
+    requires { broadcast_lengths (heights (map column_of answers.items)) ≡ Some len }
     ensures ok { IfOk result (λ l. l.entries ≡ map (as_answer Select len) (map column_of answers.entry.items)) }
     ensures err { IfErr result (λ e. e ≡ PlanError.OutOfMemory) }
 {
     let mut columns = ColumnList::new(alloc);
     for answer in answers {
-        columns.try_push(stretched(alloc, answer, len)?)?;
+        columns.try_push(broadcast_answer(alloc, answer, len)?)?;
     }
     Ok(columns)
 }
 
 /// The columns, each broadcast to the common length of all. `ShapeMismatch` where they do not broadcast.
 pub fn line_up(alloc: Global, answers: Vec<Answer<'_>>) -> Result<ColumnList, PlanError>
-    ensures ok { IfOk result (λ l. lined_up Select (map column_of answers.entry.items) ≡ Some l.entries) }
-    ensures err { IfErr result (λ e. (e ≡ PlanError.OutOfMemory)
-        ⊎ ((e ≡ PlanError.ShapeMismatch) × (lined_up Select (map column_of answers.entry.items) ≡ None))) }
+    ensures answer { GivesOr PlanError.ShapeMismatch (λ l. l.entries) result
+        (lined_up Select (map column_of answers.entry.items)) }
 {
     match joined_length(answers.as_slice()) {
         None => Err(PlanError::ShapeMismatch),

@@ -1,5 +1,6 @@
 //! Functions on buffers.
 ghost use Rattle.std.specs.Prelude.{◌≡◌, ◌⊎◌, [], ◌∷◌, IfOk, IfErr};
+ghost use Rattle.px_base.specs.Answer.{GivesOr};
 ghost use Rattle.px_semantics.specs.Fused.{fused_rows};
 ghost use Rattle.px_semantics.specs.Logic.{null_row, value_row, tested_rows, inverse_rows};
 ghost use Rattle.px_semantics.specs.Rows.{IsBoolean};
@@ -7,7 +8,7 @@ ghost use Rattle.px_types.specs.Integers.{IsInteger};
 ghost use Rattle.px_column.specs.ColumnOf.{type_of};
 ghost use Rattle.px_kernels.specs.Buffers.{values_of};
 ghost use Rattle.px_meaning.specs.Mean.{function_rows};
-ghost use Rattle.px_eval.specs.Own.{GivesRows, TakesOne};
+ghost use Rattle.px_eval.specs.Own.{TakesOne};
 
 use px_arrays::BooleanArray;
 use px_column::Buffer;
@@ -43,7 +44,7 @@ fn inverse(alloc: Global, a: &Buffer) -> Result<Buffer, AllocError>
 /// Row by row what the function gives of a buffer of a type that it takes.
 pub fn call_one(alloc: Global, function: &FunctionExpr, a: &Buffer) -> Result<Buffer, PlanError>
     requires { TakesOne function.now (type_of a.now) }
-    ensures { GivesRows PlanError.ShapeMismatch result (function_rows function.now (values_of a.now ∷ [])) }
+    ensures { GivesOr PlanError.ShapeMismatch (λ b. values_of b) result (function_rows function.now (values_of a.now ∷ [])) }
 {
     match function {
         FunctionExpr::Boolean(BooleanFunction::IsNull) => Ok(null_tests(alloc, a)?),
@@ -65,7 +66,7 @@ pub fn fused(
     requires integer { IsInteger (type_of a.now) }
     requires same { type_of a.now ≡ type_of b.now }
     requires also { type_of b.now ≡ type_of c.now }
-    ensures { GivesRows PlanError.ShapeMismatch result
+    ensures { GivesOr PlanError.ShapeMismatch (λ b. values_of b) result
         (fused_rows op (values_of a.now) (values_of b.now) (values_of c.now)) }
 {
     fused_buffers(alloc, op, a, b, c)

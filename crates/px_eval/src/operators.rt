@@ -1,5 +1,6 @@
 //! The operators on buffers.
 ghost use Rattle.std.specs.Prelude.{◌≡◌, ◌⊎◌, Some, None, IfOk, IfErr};
+ghost use Rattle.px_base.specs.Answer.{GivesOr};
 ghost use Rattle.px_semantics.specs.Casts.{cast_to, HasCast};
 ghost use Rattle.px_semantics.specs.Logic.{logic_rows, IsLogic};
 ghost use Rattle.px_semantics.specs.Selections.{select_rows};
@@ -10,7 +11,7 @@ ghost use Rattle.px_column.specs.ColumnOf.{type_of};
 ghost use Rattle.px_kernels.specs.Buffers.{values_of};
 ghost use Rattle.px_meaning.specs.Mean.{group_rows};
 ghost use Rattle.px_meaning.specs.Signatures.{group_of};
-ghost use Rattle.px_eval.specs.Own.{GivesRows, TakesTwo};
+ghost use Rattle.px_eval.specs.Own.{TakesTwo};
 
 use px_column::Buffer;
 use px_kernels::{arith_buffers, cast_buffer, compare_buffers, zip_with_buffers};
@@ -22,9 +23,8 @@ fn logic(alloc: Global, op: Operator, a: &Buffer, b: &Buffer) -> Result<Buffer, 
     requires logic { IsLogic op }
     requires operand { IsBoolean (type_of a.now) ⊎ IsInteger (type_of a.now) }
     requires same { type_of a.now ≡ type_of b.now }
-    ensures rows { IfOk result (λ c. Some (values_of c) ≡ logic_rows op (values_of a.now) (values_of b.now)) }
-    ensures err { IfErr result (λ e. (e ≡ PlanError.OutOfMemory)
-        ⊎ ((e ≡ PlanError.ShapeMismatch) × (logic_rows op (values_of a.now) (values_of b.now) ≡ None))) }
+    ensures rows { GivesOr PlanError.ShapeMismatch (λ c. values_of c) result
+        (logic_rows op (values_of a.now) (values_of b.now)) }
 {
     a.logic(alloc, op, b)
 }
@@ -32,7 +32,7 @@ fn logic(alloc: Global, op: Operator, a: &Buffer, b: &Buffer) -> Result<Buffer, 
 /// Row by row what the operator gives of two buffers of a type that it takes.
 pub fn binary(alloc: Global, op: Operator, a: &Buffer, b: &Buffer) -> Result<Buffer, PlanError>
     requires { TakesTwo op (type_of a.now) (type_of b.now) }
-    ensures { GivesRows PlanError.ShapeMismatch result
+    ensures { GivesOr PlanError.ShapeMismatch (λ b. values_of b) result
         (group_rows (group_of op) op (values_of a.now) (values_of b.now)) }
 {
     match op {
@@ -67,16 +67,21 @@ pub fn cast(
     options: CastOptions,
 ) -> Result<Buffer, PlanError>
     requires { HasCast (type_of a.now) (value_type_of to.now) }
-    ensures { GivesRows PlanError.InvalidCast result (cast_to options to.now (values_of a.now)) }
+    ensures { GivesOr PlanError.InvalidCast (λ b. values_of b) result (cast_to options to.now (values_of a.now)) }
 {
     cast_buffer(alloc, a, to, options)
 }
 
 /// Row by row the first where the mask is true, else the second.
-pub fn choose(alloc: Global, mask: &Buffer, a: &Buffer, b: &Buffer) -> Result<Buffer, PlanError>
+pub fn select_by_mask(
+    alloc: Global,
+    mask: &Buffer,
+    a: &Buffer,
+    b: &Buffer,
+) -> Result<Buffer, PlanError>
     requires mask { IsBoolean (type_of mask.now) }
     requires same { type_of a.now ≡ type_of b.now }
-    ensures { GivesRows PlanError.ShapeMismatch result
+    ensures { GivesOr PlanError.ShapeMismatch (λ b. values_of b) result
         (select_rows (values_of mask.now) (values_of a.now) (values_of b.now)) }
 {
     zip_with_buffers(alloc, mask, a, b)

@@ -1,14 +1,15 @@
 //! What one node gives over the rows of its inputs.
 ghost use Rattle.std.specs.Prelude.{◌≡◌, ◌⊎◌, IfOk, IfErr, IfSome, IsSome, Some, None};
+ghost use Rattle.px_base.specs.Answer.{GivesOr};
 ghost use Rattle.px_semantics.specs.Casts.{HasCast};
 ghost use Rattle.px_types.specs.ValueTypes.{value_type_of};
 ghost use Rattle.px_types.specs.declared.function.FunctionExpr.TheVariants.{Fused};
 ghost use Rattle.px_meaning.specs.Schema.{Fits, schema_of};
-ghost use Rattle.px_eval.specs.Own.{IsReady, IsAnswer, IsReason, IsOwned, IsFunction, IsOfOne, held_cast};
+ghost use Rattle.px_eval.specs.Own.{IsReady, IsAnswer, IsReason, IsOwned, IsFunction, IsOfOne, cast_at};
 ghost use Rattle.px_eval.specs.Table.{rows_at, values_of};
 
 use crate::functions::{call_one, fused};
-use crate::operators::{binary, cast, choose};
+use crate::operators::{binary, cast, select_by_mask};
 use crate::scalars::literal;
 use crate::table::{Rows, Table};
 use px_arena::{AExpr, Node};
@@ -91,7 +92,7 @@ fn own_function<'f, K: Kernels>(
 }
 
 /// The rows of the place in another type. Where that is their own type they are not copied.
-fn own_cast<'f>(
+fn cast_own_type<'f>(
     alloc: Global,
     input: Node,
     dtype: &DataType,
@@ -100,9 +101,8 @@ fn own_cast<'f>(
 ) -> Result<Rows<'f>, PlanError>
     requires filled { IsSome (rows_at table.now input.0) }
     requires castable { IfSome (rows_at table.now input.0) (λ a. HasCast a.value_type (value_type_of dtype.now)) }
-    ensures ok { IfOk result (λ r. held_cast table.now input.0 options dtype.now ≡ Some (values_of r)) }
-    ensures err { IfErr result (λ e. (e ≡ PlanError.OutOfMemory)
-        ⊎ ((e ≡ PlanError.InvalidCast) × (held_cast table.now input.0 options dtype.now ≡ None))) }
+    ensures answer { GivesOr PlanError.InvalidCast (λ r. values_of r) result
+        (cast_at table.now input.0 options dtype.now) }
 {
     let from = table.at(input);
     // The clauses of its length say that the rows are of its type.
@@ -145,7 +145,7 @@ pub fn own_rows<'f, K: Kernels>(
             expr: input,
             dtype,
             options,
-        } => own_cast(alloc, *input, dtype, *options, table),
+        } => cast_own_type(alloc, *input, dtype, *options, table),
         AExpr::Ternary {
             predicate,
             truthy,
@@ -154,7 +154,7 @@ pub fn own_rows<'f, K: Kernels>(
             let mask = table.at(*predicate);
             let first = table.at(*truthy);
             let second = table.at(*falsy);
-            owned(alloc, choose(alloc, mask, first, second))
+            owned(alloc, select_by_mask(alloc, mask, first, second))
         }
         AExpr::Function { function, .. } => own_function(
             alloc, frame, kernels, expr, function, table,

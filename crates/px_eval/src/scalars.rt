@@ -1,7 +1,7 @@
 //! The rows of literals.
 ghost use Rattle.std.specs.Prelude.{◌≡◌, List, [], ◌∷◌, Some, IfOk, IfErr};
 ghost use Rattle.px_base.specs.Answer.{GivesOrMemory};
-ghost use Rattle.px_semantics.specs.Rows.{Integer, TypedRows};
+ghost use Rattle.px_semantics.specs.Rows.{IntegerValue, TypedRows};
 ghost use Rattle.px_types.specs.declared.value_type.ValueType.{ValueType};
 ghost use Rattle.px_meaning.specs.Literals.{literal_rows};
 ghost use Rattle.px_meaning.specs.Signatures.{literal_type};
@@ -17,7 +17,7 @@ use std::alloc::Global;
 
 /// The number in one row.
 fn one_number<T: Integer>(alloc: Global, x: T) -> Result<IntegerArray<T>, PlanError>
-    ensures { GivesOrMemory result (Some (Integer (T.integer x)) ∷ []) }
+    ensures { GivesOrMemory result (Some (IntegerValue (T.integer x)) ∷ []) }
 {
     let mut rows = IntegerArrayBuilder::with_capacity(alloc, 1)?;
     rows.push(Some(x))?;

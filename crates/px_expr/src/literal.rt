@@ -78,7 +78,8 @@ fn same_literal(a: &LiteralValue, b: &LiteralValue) -> bool
 }
 
 impl PartialEq for LiteralValue {
-    ghost use Rattle.px_base.specs.Exact.{same, same-partial};
+    ghost use Rattle.px_base.specs.Exact.{same};
+    ghost use Rattle.px_base.proofs.Exact.{same-partial};
     ghost use Rattle.px_expr.specs.contracts.literal.LiteralValue.{the_row};
     ghost use Rattle.std.specs.Prelude.{◌≡◌, IsTrue, ◌↔◌};
 
@@ -95,7 +96,7 @@ impl PartialEq for LiteralValue {
 }
 
 impl Eq for LiteralValue {
-    ghost use Rattle.px_base.specs.Exact.{same-equivalence};
+    ghost use Rattle.px_base.proofs.Exact.{same-equivalence};
     ghost use Rattle.px_expr.specs.contracts.literal.LiteralValue.{the_row};
 
     ghost laws = { same-equivalence the_row.coded };

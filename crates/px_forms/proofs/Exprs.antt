@@ -8,7 +8,7 @@ use Rattle.px_base.specs.declared.error.PlanError.{PlanError}
 use Rattle.px_types.specs.declared.function.FunctionExpr.{FunctionExpr}
 use Rattle.px_expr.specs.Tree.{Node, Tree, over, tree_of}
 use Rattle.px_expr.specs.declared.expr.Expr.{Expr}
-use Rattle.px_json.specs.Answer.{ShowsOrMemory}
+use Rattle.px_base.specs.Answer.{GivesSeen}
 use Rattle.px_json.specs.Built.{single_member}
 use Rattle.px_forms.specs.Names.{function_text}
 use Rattle.px_forms.specs.Written.{function_data, node_data, data_of, all_data}
@@ -29,8 +29,8 @@ written_step es i e all vs v new h is writes pushed so_far =
 
 -- the values after none are all values
 pub written_all : (ts : List Tree) (before : List Data) (r : Result (Option (Vec Value Global)) PlanError) → before ≡ []
-    → ShowsOrMemory (option_map (λ (v : Vec Value Global). map view v.items)) r (option_map (λ us. before ++ us) (all_data ts))
-    → ShowsOrMemory (option_map (λ (v : Vec Value Global). map view v.items)) r (all_data ts)
+    → GivesSeen (option_map (λ (v : Vec Value Global). map view v.items)) r (option_map (λ us. before ++ us) (all_data ts))
+    → GivesSeen (option_map (λ (v : Vec Value Global). map view v.items)) r (all_data ts)
 written_all ts before (Ok o) none e = e ∙ ap (λ (ds : List Data). option_map (λ us. ds ++ us) (all_data ts)) none ∙ after_none (all_data ts)
 written_all ts before (Err f) none e = e
 

@@ -6,7 +6,7 @@ use Rattle.std.proofs.lemmas.List.Elements.{All-head, All-tail}
 use Rattle.serde_json.specs.Data.{Data}
 use Rattle.px_types.specs.Classes.{is_boolean_or_integer}
 use Rattle.px_semantics.specs.Columns.{IsColumn, is_column}
-use Rattle.px_semantics.specs.Rows.{Integer, Contents}
+use Rattle.px_semantics.specs.Rows.{IntegerValue, Contents}
 use Rattle.px_types.specs.ValueTypes.{holds, value_type_of}
 use Rattle.px_types.specs.declared.dtype.DataType.{DataType}
 use Rattle.px_types.specs.declared.type_parts.CastOptions.{CastOptions}
@@ -20,7 +20,7 @@ use Rattle.px_expr.specs.declared.literal.LiteralValue.{LiteralValue}
 use Rattle.px_expr.specs.declared.literal.LiteralValue.TheVariants as lit
 use Rattle.px_meaning.specs.Check.{IsChecked, resolve}
 use Rattle.px_meaning.specs.Literals.{literal_rows, one_row}
-use Rattle.px_meaning.specs.Signatures.{Known, literal_type, signature, cast_type}
+use Rattle.px_meaning.specs.Signatures.{OfType, literal_type, signature, cast_type}
 use Rattle.px_meaning.proofs.Answers.{given-parts}
 use Rattle.px_meaning.proofs.Types.{alias-types, literal-types, binary-types, cast-types, ternary-types}
 use Rattle.px_meaning.proofs.Typing.{Has, HaveAll, has, have_none, have_more, HasType-Has, column-parts}
@@ -57,10 +57,10 @@ is_some-all [] (o ∷ os) h = absurd h
 is_some-all (k ∷ ks) [] h = absurd h
 
 -- the type of a literal holds its number
-number_form : (j : ValueType) (z : ℤ) (k : ValueType) → literal_type (Some (one_row j (Some (Integer z)))) ≡ Some k → is_some (number_data j z) ≡ true
+number_form : (j : ValueType) (z : ℤ) (k : ValueType) → literal_type (Some (one_row j (Some (IntegerValue z)))) ≡ Some k → is_some (number_data j z) ≡ true
 number_form j z k e =
-    let (whole, same) = given-parts (is_column (one_row j (Some (Integer z)))) j k e in
-    let column : IsColumn (one_row j (Some (Integer z))) = is_column-column (one_row j (Some (Integer z))) whole in
+    let (whole, same) = given-parts (is_column (one_row j (Some (IntegerValue z)))) j k e in
+    let column : IsColumn (one_row j (Some (IntegerValue z))) = is_column-column (one_row j (Some (IntegerValue z))) whole in
     let held : holds j z ≡ true = (holds_decides j z).1 column.typed.0 in
     rw held refl
 
@@ -123,14 +123,14 @@ with_types : (ks js : List ValueType) (os : List (Option Data)) → ks ≡ js �
 with_types ks js os e h = subst (λ (z : List ValueType). AreThere z os) e h
 
 -- a node that takes its inputs as they are has a form where they have one
-node_form : (c : Catalog) (n : Node) (ks : List ValueType) (k : ValueType) (os : List (Option Data)) → AreThere ks os → resolve c n (map Known ks) ≡ Ok (record { inputs = ks; result = k }) → is_some (node_data n os) ≡ true
+node_form : (c : Catalog) (n : Node) (ks : List ValueType) (k : ValueType) (os : List (Option Data)) → AreThere ks os → resolve c n (map OfType ks) ≡ Ok (record { inputs = ks; result = k }) → is_some (node_data n os) ≡ true
 unfolding signature
 node_form c (Alias name) ks k os h e = alias_form name k os (with_types ks (k ∷ []) os (alias-types c name ks k e) h)
 node_form c (Column name) ks k os h e =
-    let at = column-parts c name (map Known ks) (record { inputs = ks; result = k }) e in
+    let at = column-parts c name (map OfType ks) (record { inputs = ks; result = k }) e in
     leaf_form (Column name) ks os (no_types ks at.alone) h refl
   where
-    no_types : (ks : List ValueType) → map Known ks ≡ [] → ks ≡ []
+    no_types : (ks : List ValueType) → map OfType ks ≡ [] → ks ≡ []
     no_types [] e = refl
     no_types (k ∷ ks) e = cc
 node_form c (Literal v) ks k os h e =

@@ -58,4 +58,4 @@ open_typed z y d e same fits is shows made =
     rw (made, wide, bits_of_wide z fits, plain_of_number z d false wide shows) refl
 
 pub series_written : (c : Contents) (d e : Data) → length c.values.rows < 2 ^ 32 → Each1 (IsRowOf c.values.value_type) c.values.rows → d ≡ column_data c → e ≡ single_member (codes "series") d → Some e ≡ literal_data (value.Series c)
-series_written c d e short rows is made = rw (made, is, column-is_column c.values (record { few = short; typed = rows })) refl
+series_written c d e short rows is made = rw (made, is, column-is_column c.values (record { below_limit = short; typed = rows })) refl

@@ -15,7 +15,7 @@ use Rattle.px_types.specs.declared.value_type.ValueType.TheVariants as value_typ
 use Rattle.px_expr.specs.declared.literal.LiteralValue.{LiteralValue}
 use Rattle.px_expr.specs.declared.literal.LiteralValue.TheVariants as value
 use Rattle.px_expr.specs.Tree.{Node, Tree, Trees, tree, none, more, fold_trees}
-use Rattle.px_json.specs.Answer.{ShowsOrMemory}
+use Rattle.px_base.specs.Answer.{GivesSeen}
 use Rattle.px_json.specs.Digits.{has_128_bits, is_plain_number, integer_data}
 use Rattle.px_json.specs.JsonAccess.{only_if, all_of}
 use Rattle.px_json.proofs.RoundTrip.{is_float-of_integer, plain_column}
@@ -109,12 +109,12 @@ all_plain [] ds e = let same : [] ≡ ds = cc in rw (← same) refl
 all_plain (t ∷ ts) ds e = first_plain (data_of t) (map data_of ts) ds (expr_plain t) (all_plain ts) e
 
 -- the same of what a call wrote
-pub written_plain : (t : Tree) (r : Result (Option Value) PlanError) → ShowsOrMemory (option_map view) r (data_of t) → IfOk r (λ o. IfSome o (λ v. has_float (view v) ≡ false))
+pub written_plain : (t : Tree) (r : Result (Option Value) PlanError) → GivesSeen (option_map view) r (data_of t) → IfOk r (λ o. IfSome o (λ v. has_float (view v) ≡ false))
 written_plain t (Ok (Some v)) e = expr_plain t (view v) (sym e)
 written_plain t (Ok None) e = tt
 written_plain t (Err f) e = tt
 
-pub all_written_plain : (ts : List Tree) (r : Result (Option (Vec Value Global)) PlanError) → ShowsOrMemory (option_map (λ (v : Vec Value Global). map view v.items)) r (all_data ts)
+pub all_written_plain : (ts : List Tree) (r : Result (Option (Vec Value Global)) PlanError) → GivesSeen (option_map (λ (v : Vec Value Global). map view v.items)) r (all_data ts)
     → IfOk r (λ o. IfSome o (λ (v : Vec Value Global). items_have_float (items_view v.items) ≡ false))
 all_written_plain ts (Ok (Some v)) e = all_plain ts (map view v.items) (sym e)
 all_written_plain ts (Ok None) e = tt

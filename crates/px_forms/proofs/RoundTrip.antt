@@ -31,7 +31,7 @@ use Rattle.px_expr.specs.declared.literal.LiteralValue.TheVariants as value
 use Rattle.px_expr.specs.Tree.{Node, Tree, Trees, tree, trees, none, more, over, tree_of, fold_trees}
 use Rattle.px_meaning.specs.Literals.{literal_of}
 use Rattle.px_meaning.proofs.Shapes.{map-parts}
-use Rattle.px_json.specs.Answer.{ShowsOrMemory}
+use Rattle.px_base.specs.Answer.{GivesSeen}
 use Rattle.px_json.specs.Built.{single_member}
 use Rattle.px_json.specs.Column.{column_data}
 use Rattle.px_json.specs.Digits.{has_128_bits, is_plain_number, integer, integer_data}
@@ -262,7 +262,7 @@ mutual
   all_again (more t ts) ds e = first_again t ts ds (data_of t) (fold_trees node_data ts) (reads_again t) (all_again ts) e
 
 -- the same of what a call wrote
-pub written_again : (t : Tree) (r : Result (Option Value) PlanError) → ShowsOrMemory (option_map view) r (data_of t) → IfOk r (λ o. IfSome o (λ v. option_map tree_of (expr_of (view v)) ≡ Some t))
+pub written_again : (t : Tree) (r : Result (Option Value) PlanError) → GivesSeen (option_map view) r (data_of t) → IfOk r (λ o. IfSome o (λ v. option_map tree_of (expr_of (view v)) ≡ Some t))
 written_again t (Ok (Some v)) e = reads_again t (view v) (sym e)
 written_again t (Ok None) e = tt
 written_again t (Err f) is = tt

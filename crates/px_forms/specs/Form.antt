@@ -23,7 +23,7 @@ use Rattle.px_forms.specs.Names.{form_named, operator_named, function_named, cas
 use Rattle.px_forms.specs.declared.form.Form.{Form}
 use Rattle.px_forms.specs.declared.form.Form.TheVariants as named
 use Rattle.px_forms.specs.declared.form.ListForm.{ListForm}
-use Rattle.px_forms.specs.declared.form.ListForm.TheVariants as listed_as
+use Rattle.px_forms.specs.declared.form.ListForm.TheVariants as list
 use Rattle.px_forms.specs.declared.literal.LiteralType.{LiteralType}
 use Rattle.px_forms.specs.declared.literal.LiteralType.TheVariants as type
 
@@ -125,11 +125,11 @@ function [] = None
 
 -- a form whose member is a list
 abbrev pub list_form : ListForm → List Part → Option Expr
-list_form listed_as.Alias parts = aliased parts
-list_form listed_as.Binary parts = binary parts
-list_form listed_as.Cast parts = cast parts
-list_form listed_as.When parts = ternary parts
-list_form listed_as.Function parts = function parts
+list_form list.Alias parts = aliased parts
+list_form list.Binary parts = binary parts
+list_form list.Cast parts = cast parts
+list_form list.When parts = ternary parts
+list_form list.Function parts = function parts
 
 -- the form of a member, and of its items if it is a list
 abbrev pub form : Form → Data → Option (List Part) → Option Expr

@@ -2,9 +2,8 @@
 ghost use Rattle.std.specs.Prelude.{◌≡◌, ◌∷◌, [], codes, map};
 ghost use Rattle.serde_json.specs.Data.{string, array};
 ghost use Rattle.serde_json.specs.View.{view, items_of};
-ghost use Rattle.px_base.specs.Answer.{GivesOrMemory};
+ghost use Rattle.px_base.specs.Answer.{GivesOrMemory, GivesSeen};
 ghost use Rattle.px_types.specs.ValueTypes.{dtype_of};
-ghost use Rattle.px_json.specs.Answer.{ShowsOrMemory};
 ghost use Rattle.px_json.specs.Built.{single_member};
 ghost use Rattle.px_forms.specs.Form.{element_wise};
 ghost use Rattle.px_forms.specs.Names.{function_text};
@@ -61,14 +60,14 @@ pub(crate) fn function(function: FunctionExpr, input: ExprList) -> Expr
 }
 
 pub(crate) fn column_value(alloc: Global, name: &str) -> Result<Value, PlanError>
-    ensures { ShowsOrMemory view result (single_member (codes "col") (string name.now)) }
+    ensures { GivesSeen view result (single_member (codes "col") (string name.now)) }
 {
     let name = text_value(alloc, name)?;
     single_member(alloc, "col", name)
 }
 
 pub(crate) fn bare(alloc: Global, value: Value) -> Result<Value, PlanError>
-    ensures { ShowsOrMemory view result (written.bare (view value)) }
+    ensures { GivesSeen view result (written.bare (view value)) }
 {
     single_member(alloc, "lit", value)
 }
@@ -78,7 +77,7 @@ pub(crate) fn typed(
     value_type: LiteralType,
     value: Value,
 ) -> Result<Value, PlanError>
-    ensures { ShowsOrMemory view result (written.typed value_type (view value)) }
+    ensures { GivesSeen view result (written.typed value_type (view value)) }
 {
     let value_type = literal::type_name(value_type);
     let literal = json!(in alloc; {"dtype": value_type, "value": value})?;
@@ -86,7 +85,7 @@ pub(crate) fn typed(
 }
 
 pub(crate) fn alias(alloc: Global, input: Value, name: &str) -> Result<Value, PlanError>
-    ensures { ShowsOrMemory view result (written.alias_data (view input) name.now) }
+    ensures { GivesSeen view result (written.alias_data (view input) name.now) }
 {
     let name = text_value(alloc, name)?;
     let items = pair(alloc, input, name)?;
@@ -99,7 +98,7 @@ pub(crate) fn binary(
     op: Operator,
     right: Value,
 ) -> Result<Value, PlanError>
-    ensures { ShowsOrMemory view result (written.binary_data (view left) op (view right)) }
+    ensures { GivesSeen view result (written.binary_data (view left) op (view right)) }
 {
     let op = text_value(alloc, operator::name_of(op))?;
     let items = triple(alloc, left, op, right)?;
@@ -112,7 +111,7 @@ pub(crate) fn cast_value(
     value_type: ValueType,
     options: CastOptions,
 ) -> Result<Value, PlanError>
-    ensures { ShowsOrMemory view result (written.cast_data (view input) value_type options) }
+    ensures { GivesSeen view result (written.cast_data (view input) value_type options) }
 {
     let value_type = text_value(alloc, value_type_name(value_type))?;
     let options = text_value(alloc, names::cast_name(options))?;
@@ -126,7 +125,7 @@ pub(crate) fn ternary_value(
     truthy: Value,
     falsy: Value,
 ) -> Result<Value, PlanError>
-    ensures { ShowsOrMemory view result
+    ensures { GivesSeen view result
         (written.ternary_data (view predicate) (view truthy) (view falsy)) }
 {
     let items = triple(alloc, predicate, truthy, falsy)?;
@@ -138,7 +137,7 @@ pub(crate) fn function_front(
     alloc: Global,
     function: &FunctionExpr,
 ) -> Result<Vec<Value>, PlanError>
-    ensures { ShowsOrMemory (λ v. map view v.items) result (string (function_text function.now) ∷ []) }
+    ensures { GivesSeen (λ v. map view v.items) result (string (function_text function.now) ∷ []) }
 {
     let mut items = Vec::new(alloc);
     let text = text_value(alloc, names::function_text(function))?;
@@ -148,7 +147,7 @@ pub(crate) fn function_front(
 
 /// The function's name, and its inputs after it in `items`.
 pub(crate) fn function_value(alloc: Global, items: Vec<Value>) -> Result<Value, PlanError>
-    ensures { ShowsOrMemory view result (single_member (codes "fn") (array (items_of (map view items.items)))) }
+    ensures { GivesSeen view result (single_member (codes "fn") (array (items_of (map view items.items)))) }
 {
     single_member(alloc, "fn", Value::from(items))
 }

@@ -2,8 +2,7 @@
 ghost use Rattle.std.specs.Prelude.{◌≡◌, ◌∷◌, [], Some, option_and_then, option_map};
 ghost use Rattle.serde_json.specs.Find.{as_str};
 ghost use Rattle.serde_json.specs.View.{view, items_view};
-ghost use Rattle.px_base.specs.Answer.{GivesOrMemory};
-ghost use Rattle.px_json.specs.Answer.{ShowsOrMemory};
+ghost use Rattle.px_base.specs.Answer.{GivesOrMemory, GivesSeen};
 ghost use Rattle.px_json.specs.Column.{column_in};
 ghost use Rattle.px_forms.specs.Form as form_of;
 ghost use Rattle.px_forms.specs.Form.{expr_of, exprs_of, parts_of};
@@ -29,7 +28,7 @@ pub fn expr_of_value(alloc: Global, value: &Value) -> Result<Option<Expr>, PlanE
 /// Each value's expression, and None where one of them stands for none. The only error is out of
 /// memory.
 pub fn exprs_of_values(alloc: Global, values: &[Value]) -> Result<Option<ExprList>, PlanError>
-    ensures exprs { ShowsOrMemory (option_map (λ l. l.entries)) result
+    ensures exprs { GivesSeen (option_map (λ l. l.entries)) result
         (exprs_of (items_view values.now)) }
 {
     exprs_in(alloc, values)
@@ -261,7 +260,7 @@ fn function_in(value: &Value) -> Option<FunctionExpr>
 
 #[cycle(reading)]
 fn exprs_in(alloc: Global, values: &[Value]) -> Result<Option<ExprList>, PlanError>
-    ensures { ShowsOrMemory (option_map (λ l. l.entries)) result
+    ensures { GivesSeen (option_map (λ l. l.entries)) result
         (exprs_of (items_view values.now)) }
 {
     let mut exprs = List::new(alloc);

@@ -3,7 +3,7 @@ ghost use Rattle.std.specs.Prelude.{◌≡◌, ◌++◌, ◌∷◌, [], map, opt
 ghost use Rattle.serde_json.specs.View.{view, items_view};
 ghost use Rattle.serde_json.specs.Written.{has_float, items_have_float};
 ghost use Rattle.px_expr.specs.Tree.{Alias, Binary, Cast, Ternary, Function, over, tree_of};
-ghost use Rattle.px_json.specs.Answer.{ShowsOrMemory};
+ghost use Rattle.px_base.specs.Answer.{GivesSeen};
 ghost use Rattle.px_forms.specs.Form.{expr_of};
 ghost use Rattle.px_forms.specs.Written as written;
 ghost use Rattle.px_forms.specs.Written.{data_of, all_data, literal_data};
@@ -21,7 +21,7 @@ use std::alloc::Global;
 /// The value that the expression is written as, and None where it has no form. The options of its
 /// functions are left out. The only error is out of memory.
 pub fn value_of_expr(alloc: Global, expr: &Expr) -> Result<Option<Value>, PlanError>
-    ensures value { ShowsOrMemory (option_map view) result (data_of (tree_of expr.now)) }
+    ensures value { GivesSeen (option_map view) result (data_of (tree_of expr.now)) }
 
     // It has no float, so its compact text is known.
     ensures plain { IfOk result (λ o. IfSome o (λ v. has_float (view v) ≡ false)) }
@@ -35,7 +35,7 @@ pub fn value_of_expr(alloc: Global, expr: &Expr) -> Result<Option<Value>, PlanEr
 
 /// Each expression's value, and None where one of them has no form. The only error is out of memory.
 pub fn values_of_exprs(alloc: Global, exprs: &[Expr]) -> Result<Option<Vec<Value>>, PlanError>
-    ensures values { ShowsOrMemory (option_map (λ v. map view v.items)) result
+    ensures values { GivesSeen (option_map (λ v. map view v.items)) result
         (all_data (map tree_of exprs.now)) }
     ensures plain { IfOk result (λ o. IfSome o (λ v. items_have_float (items_view v.items) ≡ false)) }
 {
@@ -45,7 +45,7 @@ pub fn values_of_exprs(alloc: Global, exprs: &[Expr]) -> Result<Option<Vec<Value
 
 #[cycle(writing)]
 fn expr_value(alloc: Global, expr: &Expr) -> Result<Option<Value>, PlanError>
-    ensures { ShowsOrMemory (option_map view) result (data_of (tree_of expr.now)) }
+    ensures { GivesSeen (option_map view) result (data_of (tree_of expr.now)) }
 {
     match expr {
         Expr::Alias(input, name) => alias_value(alloc, input.get(), name.as_str()),
@@ -87,7 +87,7 @@ fn expr_value(alloc: Global, expr: &Expr) -> Result<Option<Value>, PlanError>
 
 #[cycle(writing)]
 fn alias_value(alloc: Global, input: &Expr, name: &str) -> Result<Option<Value>, PlanError>
-    ensures { ShowsOrMemory (option_map view) result
+    ensures { GivesSeen (option_map view) result
         (data_of (over (Alias name.now) (tree_of input.now ∷ []))) }
 {
     let Some(input) = expr_value(alloc, input)? else {
@@ -103,7 +103,7 @@ fn binary_value(
     op: Operator,
     right: &Expr,
 ) -> Result<Option<Value>, PlanError>
-    ensures { ShowsOrMemory (option_map view) result
+    ensures { GivesSeen (option_map view) result
         (data_of (over (Binary op) (tree_of left.now ∷ tree_of right.now ∷ []))) }
 {
     let Some(left) = expr_value(alloc, left)? else {
@@ -120,7 +120,7 @@ fn operated_value(
     op: Operator,
     right: &Expr,
 ) -> Result<Option<Value>, PlanError>
-    ensures { ShowsOrMemory (option_map view) result
+    ensures { GivesSeen (option_map view) result
         (option_and_then (λ r. Some (written.binary_data (view left) op r)) (data_of (tree_of right.now))) }
 {
     let Some(right) = expr_value(alloc, right)? else {
@@ -136,7 +136,7 @@ fn cast_value(
     dtype: &DataType,
     options: CastOptions,
 ) -> Result<Option<Value>, PlanError>
-    ensures { ShowsOrMemory (option_map view) result
+    ensures { GivesSeen (option_map view) result
         (data_of (over (Cast dtype.now options) (tree_of input.now ∷ []))) }
 {
     let Some(value_type) = dtype.value_type() else {
@@ -155,7 +155,7 @@ fn ternary_value(
     truthy: &Expr,
     falsy: &Expr,
 ) -> Result<Option<Value>, PlanError>
-    ensures { ShowsOrMemory (option_map view) result
+    ensures { GivesSeen (option_map view) result
         (data_of (over Ternary (tree_of predicate.now ∷ tree_of truthy.now ∷ tree_of falsy.now ∷ []))) }
 {
     let Some(predicate) = expr_value(alloc, predicate)? else {
@@ -172,7 +172,7 @@ fn choice_value(
     truthy: &Expr,
     falsy: &Expr,
 ) -> Result<Option<Value>, PlanError>
-    ensures { ShowsOrMemory (option_map view) result
+    ensures { GivesSeen (option_map view) result
         (option_and_then (λ t. option_and_then (λ f. Some (written.ternary_data (view predicate) t f)) (data_of (tree_of falsy.now))) (data_of (tree_of truthy.now))) }
 {
     let Some(truthy) = expr_value(alloc, truthy)? else {
@@ -188,7 +188,7 @@ fn choice_between(
     truthy: Value,
     falsy: &Expr,
 ) -> Result<Option<Value>, PlanError>
-    ensures { ShowsOrMemory (option_map view) result
+    ensures { GivesSeen (option_map view) result
         (option_and_then (λ f. Some (written.ternary_data (view predicate) (view truthy) f)) (data_of (tree_of falsy.now))) }
 {
     let Some(falsy) = expr_value(alloc, falsy)? else {
@@ -203,7 +203,7 @@ fn function_value(
     function: &FunctionExpr,
     inputs: &[Expr],
 ) -> Result<Option<Value>, PlanError>
-    ensures { ShowsOrMemory (option_map view) result
+    ensures { GivesSeen (option_map view) result
         (data_of (over (Function function.now) (map tree_of inputs.now))) }
 {
     let items = build::function_front(alloc, function)?;
@@ -220,7 +220,7 @@ fn values_after(
     values: Vec<Value>,
     exprs: &[Expr],
 ) -> Result<Option<Vec<Value>>, PlanError>
-    ensures { ShowsOrMemory (option_map (λ v. map view v.items)) result
+    ensures { GivesSeen (option_map (λ v. map view v.items)) result
         (option_map (λ ds. map view values.items ++ ds) (all_data (map tree_of exprs.now))) }
 {
     let mut values = values;
@@ -234,7 +234,7 @@ fn values_after(
 }
 
 fn literal_value(alloc: Global, literal: &LiteralValue) -> Result<Option<Value>, PlanError>
-    ensures { ShowsOrMemory (option_map view) result (literal_data literal.now) }
+    ensures { GivesSeen (option_map view) result (literal_data literal.now) }
 {
     match literal {
         LiteralValue::Null => Ok(Some(build::bare(alloc, Value::Null)?)),
@@ -265,7 +265,7 @@ fn number_literal<T: Integer>(
     n: T,
 ) -> Result<Option<Value>, PlanError>
     requires { value_type ≡ T.value_type }
-    ensures { ShowsOrMemory (option_map view) result (written.number_data value_type (T.integer n)) }
+    ensures { GivesSeen (option_map view) result (written.number_data value_type (T.integer n)) }
 {
     // Its clauses say that the type holds the number.
     let _wide = n.to_wide();
@@ -274,14 +274,14 @@ fn number_literal<T: Integer>(
 }
 
 fn int128_literal(alloc: Global, n: i128) -> Result<Option<Value>, PlanError>
-    ensures { ShowsOrMemory (option_map view) result (literal_data (LiteralValue.Int128 n)) }
+    ensures { GivesSeen (option_map view) result (literal_data (LiteralValue.Int128 n)) }
 {
     let value = integer_value(alloc, n)?;
     Ok(Some(build::typed(alloc, LiteralType::Int128, value)?))
 }
 
 fn open_literal(alloc: Global, n: i128) -> Result<Option<Value>, PlanError>
-    ensures { ShowsOrMemory (option_map view) result (literal_data (LiteralValue.Int n)) }
+    ensures { GivesSeen (option_map view) result (literal_data (LiteralValue.Int n)) }
 {
     let value = integer_value(alloc, n)?;
     if value.is_number() {
@@ -292,7 +292,7 @@ fn open_literal(alloc: Global, n: i128) -> Result<Option<Value>, PlanError>
 }
 
 fn series_literal(alloc: Global, column: &Column) -> Result<Option<Value>, PlanError>
-    ensures { ShowsOrMemory (option_map view) result (literal_data (LiteralValue.Series column.now)) }
+    ensures { GivesSeen (option_map view) result (literal_data (LiteralValue.Series column.now)) }
 {
     // Its clauses say that the rows are those of a column.
     let _len = column.len();

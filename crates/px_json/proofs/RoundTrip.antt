@@ -12,11 +12,11 @@ use Rattle.serde_json.specs.declared.value.Value.{Value}
 use Rattle.px_base.specs.declared.error.PlanError.{PlanError}
 use Rattle.px_semantics.specs.Columns.{IsColumn}
 use Rattle.px_types.specs.Integers.{InRange}
-use Rattle.px_semantics.specs.Rows.{Truth, Text, Integer, Row, IsRowOf, TypedRows, Contents}
+use Rattle.px_semantics.specs.Rows.{BooleanValue, StringValue, IntegerValue, Row, IsRowOf, TypedRows, Contents}
 use Rattle.px_types.specs.declared.value_type.ValueType.{ValueType}
 use Rattle.px_types.specs.declared.value_type.ValueType.TheVariants as value_type
 use Rattle.px_semantics.proofs.CastLemmas.{holds_decides}
-use Rattle.px_json.specs.Answer.{ShowsOrMemory}
+use Rattle.px_base.specs.Answer.{GivesSeen}
 use Rattle.px_json.specs.JsonAccess.{every}
 use Rattle.px_json.specs.Names.{value_type_name, value_type_named}
 use Rattle.px_json.specs.Column.{cell, integer_in, value_in, values_in, column_in, row_data, column_data}
@@ -43,24 +43,24 @@ pub is_float-of_integer : (z : ℤ) → is_float (of_integer z) ≡ false
 is_float-of_integer (pos n) = refl
 is_float-of_integer (negsuc n) = refl
 
-integer_again : (k : ValueType) (z : ℤ) → InRange k z → option_map Some (integer_in k (number (of_integer z))) ≡ Some (Some (Integer z))
+integer_again : (k : ValueType) (z : ℤ) → InRange k z → option_map Some (integer_in k (number (of_integer z))) ≡ Some (Some (IntegerValue z))
 integer_again k z h = rw (as_integer-of_integer z, (holds_decides k z).1 h) refl
 
 row_again : (k : ValueType) (r : Row) → IsRowOf k r → cell (value_in k) (row_data r) ≡ Some r
 row_again k None h = refl
-row_again value_type.Boolean (Some (Truth t)) h = refl
-row_again value_type.String (Some (Text t)) h = refl
-row_again value_type.UInt8 (Some (Integer z)) h = integer_again value_type.UInt8 z h
-row_again value_type.UInt16 (Some (Integer z)) h = integer_again value_type.UInt16 z h
-row_again value_type.UInt32 (Some (Integer z)) h = integer_again value_type.UInt32 z h
-row_again value_type.UInt64 (Some (Integer z)) h = integer_again value_type.UInt64 z h
-row_again value_type.Int8 (Some (Integer z)) h = integer_again value_type.Int8 z h
-row_again value_type.Int16 (Some (Integer z)) h = integer_again value_type.Int16 z h
-row_again value_type.Int32 (Some (Integer z)) h = integer_again value_type.Int32 z h
-row_again value_type.Int64 (Some (Integer z)) h = integer_again value_type.Int64 z h
-row_again _ (Some (Truth t)) h = absurd h
-row_again _ (Some (Text t)) h = absurd h
-row_again _ (Some (Integer z)) h = absurd h
+row_again value_type.Boolean (Some (BooleanValue t)) h = refl
+row_again value_type.String (Some (StringValue t)) h = refl
+row_again value_type.UInt8 (Some (IntegerValue z)) h = integer_again value_type.UInt8 z h
+row_again value_type.UInt16 (Some (IntegerValue z)) h = integer_again value_type.UInt16 z h
+row_again value_type.UInt32 (Some (IntegerValue z)) h = integer_again value_type.UInt32 z h
+row_again value_type.UInt64 (Some (IntegerValue z)) h = integer_again value_type.UInt64 z h
+row_again value_type.Int8 (Some (IntegerValue z)) h = integer_again value_type.Int8 z h
+row_again value_type.Int16 (Some (IntegerValue z)) h = integer_again value_type.Int16 z h
+row_again value_type.Int32 (Some (IntegerValue z)) h = integer_again value_type.Int32 z h
+row_again value_type.Int64 (Some (IntegerValue z)) h = integer_again value_type.Int64 z h
+row_again _ (Some (BooleanValue t)) h = absurd h
+row_again _ (Some (StringValue t)) h = absurd h
+row_again _ (Some (IntegerValue z)) h = absurd h
 
 rows_again : (k : ValueType) (rows : List Row) → Each1 (IsRowOf k) rows → every (cell (value_in k)) (items_of (map row_data rows)) ≡ Some rows
 rows_again k [] h = refl
@@ -74,7 +74,7 @@ is_short : (rows : List Row) → length rows < 2 ^ 32 → nat_lt (items_len (ite
 is_short rows h = ap (λ n. nat_lt n (2 ^ 32)) (items_len-items_of (map row_data rows) ∙ length-map rows row_data) ∙ lt-ltb (length rows) (2 ^ 32) h
 
 values_again : (v : TypedRows) → IsColumn v → values_in v.value_type (items_of (map row_data v.rows)) ≡ Some v
-values_again v h = rw (is_short v.rows h.few, rows_again v.value_type v.rows h.typed) refl
+values_again v h = rw (is_short v.rows h.below_limit, rows_again v.value_type v.rows h.typed) refl
 
 -- what a column is written as reads as the same column
 pub column_again : (c : Contents) → IsColumn c.values → column_in (column_data c) ≡ Some c
@@ -83,9 +83,9 @@ column_again c h = rw (value_type_named-value_type_name c.values.value_type, val
 plain_rows : (rows : List Row) → items_have_float (items_of (map row_data rows)) ≡ false
 plain_rows [] = refl
 plain_rows (None ∷ rows) = plain_rows rows
-plain_rows (Some (Truth t) ∷ rows) = plain_rows rows
-plain_rows (Some (Text text) ∷ rows) = plain_rows rows
-plain_rows (Some (Integer z) ∷ rows) = rw (is_float-of_integer z) (plain_rows rows)
+plain_rows (Some (BooleanValue t) ∷ rows) = plain_rows rows
+plain_rows (Some (StringValue text) ∷ rows) = plain_rows rows
+plain_rows (Some (IntegerValue z) ∷ rows) = rw (is_float-of_integer z) (plain_rows rows)
 
 -- it has no float
 pub plain_column : (c : Contents) → has_float (column_data c) ≡ false
@@ -96,14 +96,14 @@ plain_columns [] = refl
 plain_columns (c ∷ cs) = rw (plain_column c) (plain_columns cs)
 
 -- the same of what a call wrote
-pub written_again : (c : Contents) (r : Result Value PlanError) → IsColumn c.values → ShowsOrMemory view r (column_data c) → IfOk r (λ v. column_in (view v) ≡ Some c)
+pub written_again : (c : Contents) (r : Result Value PlanError) → IsColumn c.values → GivesSeen view r (column_data c) → IfOk r (λ v. column_in (view v) ≡ Some c)
 written_again c (Ok v) h is = rw is (column_again c h)
 written_again c (Err e) h is = tt
 
-pub written_plain : (c : Contents) (r : Result Value PlanError) → ShowsOrMemory view r (column_data c) → IfOk r (λ v. has_float (view v) ≡ false)
+pub written_plain : (c : Contents) (r : Result Value PlanError) → GivesSeen view r (column_data c) → IfOk r (λ v. has_float (view v) ≡ false)
 written_plain c (Ok v) is = rw is (plain_column c)
 written_plain c (Err e) is = tt
 
-pub all_written_plain : (cs : List Contents) (r : Result (Vec Value Global) PlanError) → ShowsOrMemory (λ (v : Vec Value Global). map view v.items) r (map column_data cs) → IfOk r (λ (v : Vec Value Global). items_have_float (items_view v.items) ≡ false)
+pub all_written_plain : (cs : List Contents) (r : Result (Vec Value Global) PlanError) → GivesSeen (λ (v : Vec Value Global). map view v.items) r (map column_data cs) → IfOk r (λ (v : Vec Value Global). items_have_float (items_view v.items) ≡ false)
 all_written_plain cs (Ok v) is = rw is (plain_columns cs)
 all_written_plain cs (Err e) is = tt

@@ -13,9 +13,9 @@ use Rattle.px_types.specs.declared.value_type.ValueType.{ValueType}
 use Rattle.px_arrays.proofs.Bitmaps.{zip2-append}
 use Rattle.px_column.specs.ColumnOf.{type_of, rows_of}
 use Rattle.px_column.specs.declared.buffer.Buffer.{Buffer}
-use Rattle.px_json.specs.Answer.{ShowsOrMemory}
+use Rattle.px_base.specs.Answer.{GivesSeen}
 use Rattle.px_json.specs.JsonAccess.{◌>>=◌, every}
-use Rattle.px_json.specs.Column.{cell, truth_in, rows_in, values_in}
+use Rattle.px_json.specs.Column.{cell, boolean_in, rows_in, values_in}
 
 -- what was read so far, before what is left
 abbrev pub with_front : {A : Type 0} → List A → Option (List A) → Option (List A)
@@ -32,10 +32,10 @@ number_of_rows k vs h = values_under true k vs (lt-ltb (length vs) (2 ^ 32) h)
 
 -- the same of what a call read
 pub read_few : (k : ValueType) (vs : List Value) (r : Result (Option Buffer) PlanError) → length vs < 2 ^ 32
-    → ShowsOrMemory (option_map (λ (b : Buffer). record { value_type = type_of b; rows = rows_of b })) r (rows_in k (items_view vs))
-    → ShowsOrMemory (option_map (λ (b : Buffer). record { value_type = type_of b; rows = rows_of b })) r (values_in k (items_view vs))
+    → GivesSeen (option_map (λ (b : Buffer). record { value_type = type_of b; rows = rows_of b })) r (rows_in k (items_view vs))
+    → GivesSeen (option_map (λ (b : Buffer). record { value_type = type_of b; rows = rows_of b })) r (values_in k (items_view vs))
 read_few k vs r h e =
-    subst (λ (o : Option TypedRows). ShowsOrMemory (option_map (λ (b : Buffer). record { value_type = type_of b; rows = rows_of b })) r o) (sym (number_of_rows k vs h)) e
+    subst (λ (o : Option TypedRows). GivesSeen (option_map (λ (b : Buffer). record { value_type = type_of b; rows = rows_of b })) r o) (sym (number_of_rows k vs h)) e
 
 -- one item more
 pub one_longer : {A : Type 0} (xs : List A) (x : A) (ys : List A) (i : ℕ) → ys ≡ xs ++ x ∷ [] → length xs ≡ i → length ys ≡ i + 1
@@ -60,13 +60,13 @@ flag_row (Some t) = refl
 flag_row None = refl
 
 -- one more Boolean is read
-pub truths_step : (vs : List Value) (i : ℕ) (v : Value) (flags valid new_flags new_valid : List Bool) (row : Option Bool) (flag there : Bool)
-    → i < length vs → v ≡ get_or vs i v → Some (boolean_row row) ≡ cell truth_in (view v) → flag ≡ unwrap_or row false → there ≡ is_some row
+pub booleans_step : (vs : List Value) (i : ℕ) (v : Value) (flags valid new_flags new_valid : List Bool) (row : Option Bool) (flag there : Bool)
+    → i < length vs → v ≡ get_or vs i v → Some (boolean_row row) ≡ cell boolean_in (view v) → flag ≡ unwrap_or row false → there ≡ is_some row
     → new_flags ≡ flags ++ flag ∷ [] → new_valid ≡ valid ++ there ∷ [] → length flags ≡ i → length valid ≡ i
-    → every (cell truth_in) (items_view vs) ≡ with_front (zip2 boolean_entry flags valid) (every (cell truth_in) (items_view (drop i vs)))
-    → every (cell truth_in) (items_view vs) ≡ with_front (zip2 boolean_entry new_flags new_valid) (every (cell truth_in) (items_view (drop (i + 1) vs)))
-truths_step vs i v flags valid new_flags new_valid row flag there h is reads flag_is there_is flags_are valid_are long_flags long_valid so_far =
+    → every (cell boolean_in) (items_view vs) ≡ with_front (zip2 boolean_entry flags valid) (every (cell boolean_in) (items_view (drop i vs)))
+    → every (cell boolean_in) (items_view vs) ≡ with_front (zip2 boolean_entry new_flags new_valid) (every (cell boolean_in) (items_view (drop (i + 1) vs)))
+booleans_step vs i v flags valid new_flags new_valid row flag there h is reads flag_is there_is flags_are valid_are long_flags long_valid so_far =
     let entry : boolean_entry flag there ≡ boolean_row row = rw (flag_is, there_is) (flag_row row) in
     let rows : zip2 boolean_entry new_flags new_valid ≡ zip2 boolean_entry flags valid ++ boolean_row row ∷ [] =
     rw (flags_are, valid_are) (zip2-append boolean_entry flags (flag ∷ []) valid (there ∷ []) (long_flags ∙ sym long_valid) ∙ ap (λ r. zip2 boolean_entry flags valid ++ r ∷ []) entry) in
-    rw rows (every_step (cell truth_in) vs i v (zip2 boolean_entry flags valid) (boolean_row row) h is reads so_far)
+    rw rows (every_step (cell boolean_in) vs i v (zip2 boolean_entry flags valid) (boolean_row row) h is reads so_far)

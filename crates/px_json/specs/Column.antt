@@ -4,7 +4,7 @@ use Rattle.serde_json.specs.Data.{Data, null, boolean, number, string, array, ob
 use Rattle.serde_json.specs.Events.{items_len}
 use Rattle.serde_json.specs.Find.{as_bool, as_str, as_array, of_integer}
 use Rattle.serde_json.specs.View.{items_of}
-use Rattle.px_semantics.specs.Rows.{Datum, Row, Truth, Text, Integer, TypedRows, Contents}
+use Rattle.px_semantics.specs.Rows.{Datum, Row, BooleanValue, StringValue, IntegerValue, TypedRows, Contents}
 use Rattle.px_types.specs.declared.value_type.ValueType.{ValueType}
 use Rattle.px_types.specs.declared.value_type.ValueType.TheVariants as value_type
 use Rattle.px_json.specs.JsonAccess.{◌>>=◌, only_if, three_fields, number_in, every}
@@ -12,19 +12,19 @@ use Rattle.px_json.specs.Names.{value_type_name, value_type_named}
 
 -- an integer of the type, a Boolean, a text
 abbrev pub integer_in : ValueType → Data → Option Datum
-integer_in value_type d = option_map Integer (number_in value_type d)
+integer_in value_type d = option_map IntegerValue (number_in value_type d)
 
-abbrev pub truth_in : Data → Option Datum
-truth_in d = option_map Truth (as_bool d)
+abbrev pub boolean_in : Data → Option Datum
+boolean_in d = option_map BooleanValue (as_bool d)
 
-abbrev pub text_in : Data → Option Datum
-text_in d = option_map Text (as_str d)
+abbrev pub string_in : Data → Option Datum
+string_in d = option_map StringValue (as_str d)
 
 -- a value of the type, which is not null
 abbrev pub value_in : ValueType → Data → Option Datum
 value_in value_type.Null = λ d. None
-value_in value_type.Boolean = truth_in
-value_in value_type.String = text_in
+value_in value_type.Boolean = boolean_in
+value_in value_type.String = string_in
 value_in value_type.UInt8 = integer_in value_type.UInt8
 value_in value_type.UInt16 = integer_in value_type.UInt16
 value_in value_type.UInt32 = integer_in value_type.UInt32
@@ -67,9 +67,9 @@ column_in d = do
 -- the value of a row
 abbrev pub row_data : Row → Data
 row_data None = null
-row_data (Some (Truth t)) = boolean t
-row_data (Some (Text text)) = string text
-row_data (Some (Integer z)) = number (of_integer z)
+row_data (Some (BooleanValue t)) = boolean t
+row_data (Some (StringValue text)) = string text
+row_data (Some (IntegerValue z)) = number (of_integer z)
 
 -- {"dtype": type, "name": text, "values": list}
 abbrev pub named_data : ValueType → List ℕ → List Data → Data

@@ -1,4 +1,3 @@
-pub mod Answer
 pub mod JsonAccess
 pub mod Digits
 pub mod Names

@@ -5,7 +5,7 @@ ghost use Rattle.serde_json.specs.View.{view, items_view};
 ghost use Rattle.std.specs.Option.{option_copied};
 ghost use Rattle.px_semantics.specs.Rows.{boolean_row, integer_row, string_row};
 ghost use Rattle.px_json.specs.JsonAccess as access;
-ghost use Rattle.px_json.specs.Column.{cell, integer_in, truth_in, text_in};
+ghost use Rattle.px_json.specs.Column.{cell, integer_in, boolean_in, string_in};
 
 use px_integers::Integer;
 use serde_json::Value;
@@ -141,8 +141,8 @@ pub(crate) fn number_cell<T: Integer>(value: &Value) -> Option<Option<T>>
 }
 
 /// A null, or a Boolean.
-pub(crate) fn truth_cell(value: &Value) -> Option<Option<bool>>
-    ensures { option_map boolean_row result ≡ cell truth_in (view value.now) }
+pub(crate) fn boolean_cell(value: &Value) -> Option<Option<bool>>
+    ensures { option_map boolean_row result ≡ cell boolean_in (view value.now) }
 {
     if value.is_null() {
         return Some(None);
@@ -152,9 +152,9 @@ pub(crate) fn truth_cell(value: &Value) -> Option<Option<bool>>
 }
 
 /// A null, or a string.
-pub(crate) fn text_cell(value: &Value) -> Option<Option<&str>>
+pub(crate) fn string_cell(value: &Value) -> Option<Option<&str>>
     ensures { option_map (λ row. string_row (option_copied row)) result
-        ≡ cell text_in (view value.now) }
+        ≡ cell string_in (view value.now) }
 {
     if value.is_null() {
         return Some(None);

@@ -1,7 +1,6 @@
 //! Integers of up to 128 bits, as numbers or as strings of their decimal digits.
 ghost use Rattle.serde_json.specs.View.{view};
-ghost use Rattle.px_base.specs.Answer.{GivesOrMemory};
-ghost use Rattle.px_json.specs.Answer.{ShowsOrMemory};
+ghost use Rattle.px_base.specs.Answer.{GivesOrMemory, GivesSeen};
 ghost use Rattle.px_json.specs.Digits as digits;
 ghost use Rattle.px_json.specs.Digits.{integer_of_text, integer_data};
 
@@ -40,7 +39,7 @@ pub fn integer(alloc: Global, value: &Value) -> Result<Option<i128>, PlanError>
 /// The number, where JSON has it: from -2^63 to 2^64 - 1. Else the string of its decimal digits.
 /// The only error is out of memory.
 pub fn integer_value(alloc: Global, number: i128) -> Result<Value, PlanError>
-    ensures { ShowsOrMemory view result (integer_data number) }
+    ensures { GivesSeen view result (integer_data number) }
 {
     match serde_json::Number::from_i128(number) {
         Some(number) => Ok(Value::from(number)),

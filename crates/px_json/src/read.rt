@@ -1,13 +1,12 @@
 //! Columns, read from values.
 ghost use Rattle.std.specs.Prelude.{◌≡◌, ◌<◌, ◌^◌, length, option_map, replicate, None};
 ghost use Rattle.serde_json.specs.View.{view, items_view};
-ghost use Rattle.px_base.specs.Answer.{GivesOrMemory};
+ghost use Rattle.px_base.specs.Answer.{GivesOrMemory, GivesSeen};
 ghost use Rattle.px_types.specs.declared.value_type.ValueType.TheVariants as value_type;
 ghost use Rattle.px_column.specs.ColumnOf.{type_of, rows_of};
-ghost use Rattle.px_json.specs.Answer.{ShowsOrMemory};
 ghost use Rattle.px_json.specs.JsonAccess.{every};
 ghost use Rattle.px_json.specs.Column as column;
-ghost use Rattle.px_json.specs.Column.{cell, integer_in, truth_in, text_in, value_in};
+ghost use Rattle.px_json.specs.Column.{cell, integer_in, boolean_in, string_in, value_in};
 
 use crate::{access, value_type};
 use px_arrays::{
@@ -43,7 +42,7 @@ pub fn column_of_value(alloc: Global, value: &Value) -> Result<Option<Column>, P
 
 /// Each value's column, or None where one of them stands for none. The only error is out of memory.
 pub fn columns_of_values(alloc: Global, values: &[Value]) -> Result<Option<ColumnList>, PlanError>
-    ensures columns { ShowsOrMemory (option_map (λ l. l.entries)) result
+    ensures columns { GivesSeen (option_map (λ l. l.entries)) result
         (every column.column_in (items_view values.now)) }
 {
     let mut columns = List::new(alloc);
@@ -73,7 +72,7 @@ fn buffer_of(
     value_type: ValueType,
     items: &[Value],
 ) -> Result<Option<Buffer>, PlanError>
-    ensures { ShowsOrMemory (option_map (λ b. record { value_type = type_of b; rows = rows_of b })) result
+    ensures { GivesSeen (option_map (λ b. record { value_type = type_of b; rows = rows_of b })) result
         (column.values_in value_type (items_view items.now)) }
 {
     if items.len() >= TOO_LONG {
@@ -89,7 +88,7 @@ fn rows_of_kind(
     items: &[Value],
 ) -> Result<Option<Buffer>, PlanError>
     requires { length items.now < 2 ^ 32 }
-    ensures { ShowsOrMemory (option_map (λ b. record { value_type = type_of b; rows = rows_of b })) result
+    ensures { GivesSeen (option_map (λ b. record { value_type = type_of b; rows = rows_of b })) result
         (column.rows_in value_type (items_view items.now)) }
 {
     macro_rules! numbers {
@@ -99,8 +98,8 @@ fn rows_of_kind(
     }
     match value_type {
         ValueType::Null => Ok(nulls_of(items).map(Buffer::Null)),
-        ValueType::Boolean => Ok(truths_of(alloc, items)?.map(Buffer::Boolean)),
-        ValueType::String => Ok(texts_of(alloc, items)?.map(Buffer::Text)),
+        ValueType::Boolean => Ok(booleans_of(alloc, items)?.map(Buffer::Boolean)),
+        ValueType::String => Ok(strings_of(alloc, items)?.map(Buffer::String)),
         ValueType::UInt8 => numbers!(UInt8),
         ValueType::UInt16 => numbers!(UInt16),
         ValueType::UInt32 => numbers!(UInt32),
@@ -127,14 +126,14 @@ fn nulls_of(items: &[Value]) -> Option<u32>
 }
 
 /// The rows of a list of nulls and Booleans, and None where it holds anything else.
-fn truths_of(alloc: Global, items: &[Value]) -> Result<Option<BooleanArray>, PlanError>
+fn booleans_of(alloc: Global, items: &[Value]) -> Result<Option<BooleanArray>, PlanError>
     requires { length items.now < 2 ^ 32 }
-    ensures { GivesOrMemory result (every (cell truth_in) (items_view items.now)) }
+    ensures { GivesOrMemory result (every (cell boolean_in) (items_view items.now)) }
 {
     let mut flags = Vec::with_capacity(alloc, items.len())?;
     let mut valid = Vec::with_capacity(alloc, items.len())?;
     for item in items {
-        let Some(row) = access::truth_cell(item) else {
+        let Some(row) = access::boolean_cell(item) else {
             return Ok(None);
         };
         flags.push(row.unwrap_or(false))?;
@@ -145,13 +144,13 @@ fn truths_of(alloc: Global, items: &[Value]) -> Result<Option<BooleanArray>, Pla
 }
 
 /// The rows of a list of nulls and texts, and None where it holds anything else.
-fn texts_of(alloc: Global, items: &[Value]) -> Result<Option<StringArray>, PlanError>
+fn strings_of(alloc: Global, items: &[Value]) -> Result<Option<StringArray>, PlanError>
     requires { length items.now < 2 ^ 32 }
-    ensures { GivesOrMemory result (every (cell text_in) (items_view items.now)) }
+    ensures { GivesOrMemory result (every (cell string_in) (items_view items.now)) }
 {
     let mut rows = StringArrayBuilder::with_capacity(alloc, items.len())?;
     for item in items {
-        let Some(row) = access::text_cell(item) else {
+        let Some(row) = access::string_cell(item) else {
             return Ok(None);
         };
         rows.push(row)?;

@@ -7,7 +7,7 @@ ghost use Rattle.serde_json.specs.View.{view, items_view};
 ghost use Rattle.serde_json.specs.Written.{has_float, items_have_float};
 ghost use Rattle.px_semantics.specs.Rows.{boolean_row, integer_row, string_row};
 ghost use Rattle.px_column.specs.ColumnOf.{rows_of};
-ghost use Rattle.px_json.specs.Answer.{ShowsOrMemory};
+ghost use Rattle.px_base.specs.Answer.{GivesSeen};
 ghost use Rattle.px_json.specs.Column.{column_in, column_data, named_data, row_data};
 
 use crate::{build, value_type};
@@ -21,7 +21,7 @@ use std::alloc::Global;
 /// The column as an object with the keys `dtype`, `name` and `values`. The only error is out of
 /// memory.
 pub fn value_of_column(alloc: Global, column: &Column) -> Result<Value, PlanError>
-    ensures value { ShowsOrMemory view result (column_data column.now) }
+    ensures value { GivesSeen view result (column_data column.now) }
 
     // It has no float, so its compact text is known.
     ensures plain { IfOk result (λ v. has_float (view v) ≡ false) }
@@ -36,14 +36,14 @@ pub fn value_of_column(alloc: Global, column: &Column) -> Result<Value, PlanErro
 
 /// Each column's value. The only error is out of memory.
 pub fn values_of_columns(alloc: Global, columns: &[Column]) -> Result<Vec<Value>, PlanError>
-    ensures values { ShowsOrMemory (λ v. map view v.items) result (map column_data columns.now) }
+    ensures values { GivesSeen (λ v. map view v.items) result (map column_data columns.now) }
     ensures plain { IfOk result (λ v. items_have_float (items_view v.items) ≡ false) }
 {
     column_values(alloc, columns)
 }
 
 fn column_values(alloc: Global, columns: &[Column]) -> Result<Vec<Value>, PlanError>
-    ensures { ShowsOrMemory (λ v. map view v.items) result (map column_data columns.now) }
+    ensures { GivesSeen (λ v. map view v.items) result (map column_data columns.now) }
 {
     let mut values = Vec::with_capacity(alloc, columns.len())?;
     for column in columns {
@@ -53,7 +53,7 @@ fn column_values(alloc: Global, columns: &[Column]) -> Result<Vec<Value>, PlanEr
 }
 
 fn column_value(alloc: Global, column: &Column) -> Result<Value, PlanError>
-    ensures { ShowsOrMemory view result (column_data column.now) }
+    ensures { GivesSeen view result (column_data column.now) }
 {
     let values = row_values(alloc, column.buffer())?;
     named(alloc, column.value_type(), column.name().as_str(), values)
@@ -65,7 +65,7 @@ fn named(
     name: &str,
     values: Vec<Value>,
 ) -> Result<Value, PlanError>
-    ensures { ShowsOrMemory view result (named_data value_type name.now (map view values.items)) }
+    ensures { GivesSeen view result (named_data value_type name.now (map view values.items)) }
 {
     let value_type = value_type::value_type_name(value_type);
     Ok(json!(in alloc; {"dtype": value_type, "name": name, "values": values})?)
@@ -73,12 +73,12 @@ fn named(
 
 /// Each row's value.
 fn row_values(alloc: Global, buffer: &Buffer) -> Result<Vec<Value>, PlanError>
-    ensures { ShowsOrMemory (λ v. map view v.items) result (map row_data (rows_of buffer.now)) }
+    ensures { GivesSeen (λ v. map view v.items) result (map row_data (rows_of buffer.now)) }
 {
     match buffer {
         Buffer::Null(len) => null_values(alloc, *len),
-        Buffer::Boolean(rows) => truth_values(alloc, rows),
-        Buffer::Text(rows) => text_values(alloc, rows),
+        Buffer::Boolean(rows) => boolean_values(alloc, rows),
+        Buffer::String(rows) => string_values(alloc, rows),
         Buffer::Int8(rows) => number_values(alloc, rows),
         Buffer::Int16(rows) => number_values(alloc, rows),
         Buffer::Int32(rows) => number_values(alloc, rows),
@@ -91,7 +91,7 @@ fn row_values(alloc: Global, buffer: &Buffer) -> Result<Vec<Value>, PlanError>
 }
 
 fn null_values(alloc: Global, len: u32) -> Result<Vec<Value>, PlanError>
-    ensures { ShowsOrMemory (λ v. map view v.items) result (map row_data (replicate len None)) }
+    ensures { GivesSeen (λ v. map view v.items) result (map row_data (replicate len None)) }
 {
     let mut values = Vec::with_capacity(alloc, len as usize)?;
     for _ in 0..len {
@@ -100,28 +100,28 @@ fn null_values(alloc: Global, len: u32) -> Result<Vec<Value>, PlanError>
     Ok(values)
 }
 
-fn truth_values(alloc: Global, rows: &BooleanArray) -> Result<Vec<Value>, PlanError>
-    ensures { ShowsOrMemory (λ v. map view v.items) result (map row_data rows.now) }
+fn boolean_values(alloc: Global, rows: &BooleanArray) -> Result<Vec<Value>, PlanError>
+    ensures { GivesSeen (λ v. map view v.items) result (map row_data rows.now) }
 {
     let mut values = Vec::with_capacity(alloc, rows.len())?;
     for i in 0..rows.len() {
-        values.push(truth_value(rows.get(i)))?;
+        values.push(boolean_value(rows.get(i)))?;
     }
     Ok(values)
 }
 
-fn text_values(alloc: Global, rows: &StringArray) -> Result<Vec<Value>, PlanError>
-    ensures { ShowsOrMemory (λ v. map view v.items) result (map row_data rows.now) }
+fn string_values(alloc: Global, rows: &StringArray) -> Result<Vec<Value>, PlanError>
+    ensures { GivesSeen (λ v. map view v.items) result (map row_data rows.now) }
 {
     let mut values = Vec::with_capacity(alloc, rows.len())?;
     for i in 0..rows.len() {
-        values.push(text_row_value(alloc, rows.get(i))?)?;
+        values.push(string_row_value(alloc, rows.get(i))?)?;
     }
     Ok(values)
 }
 
 fn number_values<T: Integer>(alloc: Global, rows: &IntegerArray<T>) -> Result<Vec<Value>, PlanError>
-    ensures { ShowsOrMemory (λ v. map view v.items) result (map row_data rows.now) }
+    ensures { GivesSeen (λ v. map view v.items) result (map row_data rows.now) }
 {
     let mut values = Vec::with_capacity(alloc, rows.len())?;
     for i in 0..rows.len() {
@@ -130,7 +130,7 @@ fn number_values<T: Integer>(alloc: Global, rows: &IntegerArray<T>) -> Result<Ve
     Ok(values)
 }
 
-fn truth_value(row: Option<bool>) -> Value
+fn boolean_value(row: Option<bool>) -> Value
     ensures { view result ≡ row_data (boolean_row row) }
 {
     match row {
@@ -139,8 +139,8 @@ fn truth_value(row: Option<bool>) -> Value
     }
 }
 
-fn text_row_value(alloc: Global, row: Option<&str>) -> Result<Value, PlanError>
-    ensures { ShowsOrMemory view result (row_data (string_row (option_copied row.entry))) }
+fn string_row_value(alloc: Global, row: Option<&str>) -> Result<Value, PlanError>
+    ensures { GivesSeen view result (row_data (string_row (option_copied row.entry))) }
 {
     match row {
         None => Ok(Value::Null),

@@ -1,7 +1,6 @@
 -- Rows of casts, by their bitmaps and their numbers.
-use Rattle.std.proofs.Common.{◌≡◌, ◌∙◌, ◌⊎◌, inl, inr, ◌&&◌, ◌||◌, ◌<◌, ◌≤◌, ◌+◌, ℕ, ℤ, pos, Bool, true, false, not, cond, List, [], ◌∷◌, map, length, sym, ap, subst, refl, Some, None, is_some, is_none, option_map, option_and_then, get_or, replicate, drop, zero, suc, arith}
-use Rattle.std.specs.Prelude.{IsTrue, Result, Ok, Err, IfOk, IfErr}
-use Rattle.px_base.specs.Answer.{GivesOrMemory}
+use Rattle.std.proofs.Common.{◌≡◌, ◌∙◌, ◌⊎◌, inl, inr, ◌&&◌, ◌||◌, ◌<◌, ◌≤◌, ◌+◌, ℕ, ℤ, pos, Bool, true, false, not, cond, List, [], ◌∷◌, map, length, sym, ap, refl, Some, None, is_some, is_none, option_map, option_and_then, get_or, replicate, drop, zero, suc, arith}
+use Rattle.std.specs.Prelude.{IsTrue, Result, Ok, Err, IfOk}
 use Rattle.std.specs.Bool.{MatchBool}
 use Rattle.std.specs.List.{AllWithin, range_with_len}
 use Rattle.std.proofs.lemmas.List.FromFn.{fill_by_all}
@@ -11,14 +10,15 @@ use Rattle.std.proofs.lemmas.Bool.Decides.{same_from_decides}
 use Rattle.std.proofs.lemmas.List.{length-map, length-replicate}
 use Rattle.std.proofs.lemmas.List.Sums.{sum_by-cons}
 use Rattle.std.proofs.lemmas.Simd.{length-zip2}
+use Rattle.px_base.specs.Answer.{GivesOr}
 use Rattle.px_base.specs.declared.error.PlanError.{PlanError}
 use Rattle.px_base.specs.declared.error.PlanError.TheVariants.{OutOfMemory, InvalidCast}
 use Rattle.px_semantics.proofs.CastLemmas.{holds_decides, none_lost, cast_gives, same_gives}
 use Rattle.px_semantics.specs.Arithmetic.{is_zero}
-use Rattle.px_semantics.specs.Casts.{as_integer, as_truth, cast_value, cast_row, is_lost, any_lost, cast_list, cast_rows, cast_to}
+use Rattle.px_semantics.specs.Casts.{as_integer, as_boolean, cast_value, cast_row, is_lost, any_lost, cast_list, cast_rows, cast_to}
 use Rattle.px_types.specs.Integers.{into, InRange}
 use Rattle.px_semantics.specs.Logic.{is_true}
-use Rattle.px_semantics.specs.Rows.{Datum, Truth, Text, Integer, Row, TypedRows, entry, boolean_entry, null_count, IsRowOf}
+use Rattle.px_semantics.specs.Rows.{Datum, BooleanValue, StringValue, IntegerValue, Row, TypedRows, entry, boolean_entry, null_count, IsRowOf}
 use Rattle.px_types.specs.ValueTypes.{holds, value_type_of}
 use Rattle.px_types.specs.declared.dtype.DataType.{DataType}
 use Rattle.px_types.specs.declared.type_parts.CastOptions.{CastOptions}
@@ -91,7 +91,7 @@ pub each_bit_inside : (P : ℤ → Type 0) (r : Bool → ℤ) → ((b : Bool) �
 each_bit_inside P r h [] = tt
 each_bit_inside P r h (b ∷ bs) = (h b, each_bit_inside P r h bs)
 
-in_range_entry : (h : Bool) (z : ℤ) → entry (true && h) (cond h z (pos 0)) ≡ cond h (Some (Integer z)) None
+in_range_entry : (h : Bool) (z : ℤ) → entry (true && h) (cond h z (pos 0)) ≡ cond h (Some (IntegerValue z)) None
 in_range_entry true z = refl
 in_range_entry false z = refl
 
@@ -189,9 +189,9 @@ same_casts f g h [] = refl
 same_casts f g h (row ∷ rows) = let here = same_cast f g h row in let rest = same_casts f g h rows in cc
 
 strict_integer : (k : ValueType) (value : Datum) → as_integer NonStrict k value ≡ as_integer Strict k value
-strict_integer k (Truth t) = refl
-strict_integer k (Text s) = refl
-strict_integer k (Integer z) = refl
+strict_integer k (BooleanValue t) = refl
+strict_integer k (StringValue s) = refl
+strict_integer k (IntegerValue z) = refl
 
 -- a strict cast gives the same rows, where it loses none
 pub strict_rows : (k : ValueType) (rows : List Row) → map (cast_row (as_integer NonStrict k)) rows ≡ map (cast_row (as_integer Strict k)) rows
@@ -210,38 +210,38 @@ bits_by_place f bits n e =
     sym (maps (λ i. get_or bits i false) f (range_with_len 0 n)) ∙ ap (map f) (sym (fill_by_all (λ i. get_or bits i false) bits n false (sym e) (λ k h. refl)))
 
 boolean_as_integer : (options : CastOptions) (k : ValueType) (row : Row) → IsRowOf value_type.Boolean row → entry (is_some row) (cond (is_true row) (pos 1) (pos 0)) ≡ cast_row (as_integer options k) row
-boolean_as_integer options k (Some (Truth true)) h = refl
-boolean_as_integer options k (Some (Truth false)) h = refl
-boolean_as_integer options k (Some (Text s)) h = absurd h
-boolean_as_integer options k (Some (Integer z)) h = absurd h
+boolean_as_integer options k (Some (BooleanValue true)) h = refl
+boolean_as_integer options k (Some (BooleanValue false)) h = refl
+boolean_as_integer options k (Some (StringValue s)) h = absurd h
+boolean_as_integer options k (Some (IntegerValue z)) h = absurd h
 boolean_as_integer options k None h = refl
 
-truth_kept : (options : CastOptions) (k : ValueType) (row : Row) → IsRowOf value_type.Boolean row → is_lost (as_integer options k) row ≡ false
-truth_kept options k (Some (Truth t)) h = refl
-truth_kept options k (Some (Text s)) h = absurd h
-truth_kept options k (Some (Integer z)) h = absurd h
-truth_kept options k None h = refl
+boolean_kept : (options : CastOptions) (k : ValueType) (row : Row) → IsRowOf value_type.Boolean row → is_lost (as_integer options k) row ≡ false
+boolean_kept options k (Some (BooleanValue t)) h = refl
+boolean_kept options k (Some (StringValue s)) h = absurd h
+boolean_kept options k (Some (IntegerValue z)) h = absurd h
+boolean_kept options k None h = refl
 
 -- Booleans as 0 and 1
-pub truths_cast : (options : CastOptions) (k : ValueType) (rows : List Row) → Each1 (IsRowOf value_type.Boolean) rows
+pub booleans_cast : (options : CastOptions) (k : ValueType) (rows : List Row) → Each1 (IsRowOf value_type.Boolean) rows
     → CastsAll (as_integer options k) rows (zip2 entry (map is_some rows) (map (λ b. cond b (pos 1) (pos 0)) (map is_true rows)))
-truths_cast options k [] h = (refl, refl)
-truths_cast options k (row ∷ rows) h =
+booleans_cast options k [] h = (refl, refl)
+booleans_cast options k (row ∷ rows) h =
     let here = boolean_as_integer options k row h.0 in
-    let rest = truths_cast options k rows h.1 in
+    let rest = booleans_cast options k rows h.1 in
     let more = rest.0 in
-    (cc, none_lost (as_integer options k) row rows (truth_kept options k row h.0) rest.1)
+    (cc, none_lost (as_integer options k) row rows (boolean_kept options k row h.0) rest.1)
 
-nonzero_row : (v : Bool) (z : ℤ) → boolean_entry (not (is_zero z)) v ≡ cast_row as_truth (entry v z)
+nonzero_row : (v : Bool) (z : ℤ) → boolean_entry (not (is_zero z)) v ≡ cast_row as_boolean (entry v z)
 nonzero_row true z = refl
 nonzero_row false z = refl
 
-nonzero_kept : (v : Bool) (z : ℤ) → is_lost as_truth (entry v z) ≡ false
+nonzero_kept : (v : Bool) (z : ℤ) → is_lost as_boolean (entry v z) ≡ false
 nonzero_kept true z = refl
 nonzero_kept false z = refl
 
 -- numbers as Booleans
-pub integers_cast : (us : List Bool) (zs : List ℤ) → CastsAll as_truth (zip2 entry us zs) (zip2 boolean_entry (map (λ z. not (is_zero z)) zs) us)
+pub integers_cast : (us : List Bool) (zs : List ℤ) → CastsAll as_boolean (zip2 entry us zs) (zip2 boolean_entry (map (λ z. not (is_zero z)) zs) us)
 integers_cast [] [] = (refl, refl)
 integers_cast [] (z ∷ zs) = (refl, refl)
 integers_cast (u ∷ us) [] = (refl, refl)
@@ -249,7 +249,7 @@ integers_cast (u ∷ us) (z ∷ zs) =
     let here = nonzero_row u z in
     let rest = integers_cast us zs in
     let more = rest.0 in
-    (cc, none_lost as_truth (entry u z) (zip2 entry us zs) (nonzero_kept u z) rest.1)
+    (cc, none_lost as_boolean (entry u z) (zip2 entry us zs) (nonzero_kept u z) rest.1)
 
 -- the same of equal rows
 pub casts_at : (f : Datum → Row) (rows xs others ys : List Row) → rows ≡ xs → ys ≡ others → CastsAll f rows others → CastsAll f xs ys
@@ -259,11 +259,6 @@ casts_at f rows xs others ys p q h = (q ∙ h.0 ∙ ap (map (cast_row f)) p, sym
 pub nulls_cast : (f : Datum → Row) (n : ℕ) → CastsAll f (replicate n None) (replicate n None)
 nulls_cast f zero = (refl, refl)
 nulls_cast f (suc n) = let rest = nulls_cast f n in (ap (λ l. None ∷ l) rest.0, rest.1)
-
--- an answer for which a fact is known, or out of memory
-pub gives_ok : {A : Type 0} (r : Result A PlanError) (a : A) (P : A → Type 0) → GivesOrMemory r a → P a → IfOk r P
-gives_ok (Ok x) a P e p = subst P (sym e) p
-gives_ok (Err x) a P e p = tt
 
 pub nulls_at : (f : Datum → Row) (n : ℕ) (rows : List Row) → rows ≡ replicate n None → CastsAll f rows (replicate n None)
 nulls_at f n rows e = casts_at f (replicate n None) rows (replicate n None) (replicate n None) (sym e) refl (nulls_cast f n)
@@ -334,21 +329,15 @@ unfolding cast_rows
 column_none options to a k e h = ap (option_and_then (λ k. cast_rows options k a)) e ∙ ap (option_map (of_type k)) h
 
 pub cast_answer : (options : CastOptions) (to : DataType) (a : TypedRows) (k : ValueType) (r : Result Buffer PlanError) → value_type_of to ≡ Some k
-    → IfOk r (λ c. type_of c ≡ k) → IfOk r (λ c. Some (rows_of c) ≡ cast_list options (cast_value options k) a.rows) → IfOk r (λ c. Some (values_of c) ≡ cast_to options to a)
+    → IfOk r (λ c. type_of c ≡ k) → GivesOr InvalidCast rows_of r (cast_list options (cast_value options k) a.rows) → GivesOr InvalidCast values_of r (cast_to options to a)
 cast_answer options to a k (Ok c) v h e = ap (λ j. Some (of_type j (rows_of c))) h ∙ column_gives options to a k (rows_of c) v e
-cast_answer options to a k (Err x) v h e = tt
-
-pub cast_refusal : (options : CastOptions) (to : DataType) (a : TypedRows) (k : ValueType) (r : Result Buffer PlanError) → value_type_of to ≡ Some k
-    → IfErr r (λ e. (e ≡ OutOfMemory) ⊎ ((e ≡ InvalidCast) × (cast_list options (cast_value options k) a.rows ≡ None)))
-    → IfErr r (λ e. (e ≡ OutOfMemory) ⊎ ((e ≡ InvalidCast) × (cast_to options to a ≡ None)))
-cast_refusal options to a k (Ok c) v h = tt
-cast_refusal options to a k (Err x) v h = refused x (column_none options to a k v) h
+cast_answer options to a k (Err x) v h e = refused x (column_none options to a k v) e
 
 -- a buffer of the type Null has nulls alone
 null_rows : (b : Buffer) → type_of b ≡ value_type.Null → rows_of b ≡ replicate (length (rows_of b)) None
 null_rows (buffer.Null len) h = let none : Row = None in ap (λ n. replicate n None) (sym (length-replicate len none))
 null_rows (buffer.Boolean rows) h = cc
-null_rows (buffer.Text rows) h = cc
+null_rows (buffer.String rows) h = cc
 null_rows (buffer.Int8 rows) h = cc
 null_rows (buffer.Int16 rows) h = cc
 null_rows (buffer.Int32 rows) h = cc
@@ -359,8 +348,8 @@ null_rows (buffer.UInt32 rows) h = cc
 null_rows (buffer.UInt64 rows) h = cc
 
 -- nulls as strings
-pub null_texts_gives : (options : CastOptions) (b : Buffer) → type_of b ≡ value_type.Null → (rows : List Row) (n : ℕ) → rows ≡ replicate n None → n ≡ length (rows_of b)
+pub null_strings_gives : (options : CastOptions) (b : Buffer) → type_of b ≡ value_type.Null → (rows : List Row) (n : ℕ) → rows ≡ replicate n None → n ≡ length (rows_of b)
     → Some rows ≡ cast_list options (cast_value options value_type.String) (rows_of b)
-null_texts_gives options b h rows n e l =
+null_strings_gives options b h rows n e l =
     let same : rows_of b ≡ replicate n None = null_rows b h ∙ ap (λ m. replicate m None) (sym l) in
     ap Some e ∙ all_cast options (cast_value options value_type.String) (rows_of b) (replicate n None) (nulls_at (cast_value options value_type.String) n (rows_of b) same)

@@ -6,7 +6,7 @@ use Rattle.px_semantics.specs.Arithmetic.{floor_quotient, floor_remainder, is_ze
 use Rattle.px_types.specs.Integers.{into}
 use Rattle.px_types.specs.declared.operator.Operator.TheVariants.{Divide, FloorDivide, Modulus}
 use Rattle.px_types.specs.declared.value_type.ValueType.{ValueType}
-use Rattle.px_semantics.specs.Rows.{Row, Truth, Text, Integer, entry, lift, broadcast_length, stretch, elementwise}
+use Rattle.px_semantics.specs.Rows.{Row, BooleanValue, StringValue, IntegerValue, entry, lift, broadcast_length, stretch, elementwise}
 use Rattle.px_arrays.proofs.Entries.{lift_entries}
 use Rattle.px_semantics.proofs.Joins.{stretch_one, stretch_other}
 use Rattle.px_semantics.proofs.Joining.{option_same}
@@ -46,30 +46,30 @@ rows_same_operation f g h xs ys =
     option_same (λ n. zip2 f (stretch n xs) (stretch n ys)) (λ n. zip2 g (stretch n xs) (stretch n ys)) (λ n. zip2_same f g h (stretch n xs) (stretch n ys)) (broadcast_length (length xs) (length ys))
 
 lift_cond : (f : ℤ → ℤ → ℤ) (x : Row) (c : Bool) (z : ℤ) → c ≡ is_zero z
-    → lift (λ a b. cond (is_zero b) (pos 0) (f a b)) x (cond c None (Some (Integer z))) ≡ lift f x (cond c None (Some (Integer z)))
-lift_cond f (Some (Integer a)) true z e = refl
-lift_cond f (Some (Integer a)) false z e = ap (λ c. Some (Integer (cond c (pos 0) (f a z)))) (sym e)
-lift_cond f (Some (Truth t)) true z e = refl
-lift_cond f (Some (Truth t)) false z e = refl
-lift_cond f (Some (Text s)) true z e = refl
-lift_cond f (Some (Text s)) false z e = refl
+    → lift (λ a b. cond (is_zero b) (pos 0) (f a b)) x (cond c None (Some (IntegerValue z))) ≡ lift f x (cond c None (Some (IntegerValue z)))
+lift_cond f (Some (IntegerValue a)) true z e = refl
+lift_cond f (Some (IntegerValue a)) false z e = ap (λ c. Some (IntegerValue (cond c (pos 0) (f a z)))) (sym e)
+lift_cond f (Some (BooleanValue t)) true z e = refl
+lift_cond f (Some (BooleanValue t)) false z e = refl
+lift_cond f (Some (StringValue s)) true z e = refl
+lift_cond f (Some (StringValue s)) false z e = refl
 lift_cond f None true z e = refl
 lift_cond f None false z e = refl
 
 nonzero_lift : (f : ℤ → ℤ → ℤ) (x y : Row)
     → lift_nonzero (λ a b. cond (is_zero b) (pos 0) (f a b)) x y ≡ lift_nonzero f x y
-nonzero_lift f x (Some (Integer z)) = lift_cond f x (is_zero z) z refl
-nonzero_lift f (Some (Integer a)) (Some (Truth t)) = refl
-nonzero_lift f (Some (Truth s)) (Some (Truth t)) = refl
-nonzero_lift f (Some (Text s)) (Some (Truth t)) = refl
-nonzero_lift f None (Some (Truth t)) = refl
-nonzero_lift f (Some (Integer a)) (Some (Text t)) = refl
-nonzero_lift f (Some (Truth s)) (Some (Text t)) = refl
-nonzero_lift f (Some (Text s)) (Some (Text t)) = refl
-nonzero_lift f None (Some (Text t)) = refl
-nonzero_lift f (Some (Integer a)) None = refl
-nonzero_lift f (Some (Truth s)) None = refl
-nonzero_lift f (Some (Text s)) None = refl
+nonzero_lift f x (Some (IntegerValue z)) = lift_cond f x (is_zero z) z refl
+nonzero_lift f (Some (IntegerValue a)) (Some (BooleanValue t)) = refl
+nonzero_lift f (Some (BooleanValue s)) (Some (BooleanValue t)) = refl
+nonzero_lift f (Some (StringValue s)) (Some (BooleanValue t)) = refl
+nonzero_lift f None (Some (BooleanValue t)) = refl
+nonzero_lift f (Some (IntegerValue a)) (Some (StringValue t)) = refl
+nonzero_lift f (Some (BooleanValue s)) (Some (StringValue t)) = refl
+nonzero_lift f (Some (StringValue s)) (Some (StringValue t)) = refl
+nonzero_lift f None (Some (StringValue t)) = refl
+nonzero_lift f (Some (IntegerValue a)) None = refl
+nonzero_lift f (Some (BooleanValue s)) None = refl
+nonzero_lift f (Some (StringValue s)) None = refl
 nonzero_lift f None None = refl
 
 -- the rows of quotients, and of rests
@@ -82,7 +82,7 @@ floor_rows value_type xs ys = rows_same_operation (lift_nonzero (quotient_of val
 pub rest_rows : (value_type : ValueType) (xs ys : List Row) → elementwise (lift_nonzero remainder_of) xs ys ≡ elementwise (arith_row Modulus value_type) xs ys
 rest_rows value_type xs ys = rows_same_operation (lift_nonzero remainder_of) (arith_row Modulus value_type) (nonzero_lift floor_remainder) xs ys
 
-kept_some : (b : Bool) (z : ℤ) → not b ≡ is_some (cond b None (Some (Integer z)))
+kept_some : (b : Bool) (z : ℤ) → not b ≡ is_some (cond b None (Some (IntegerValue z)))
 kept_some true z = refl
 kept_some false z = refl
 
@@ -96,7 +96,7 @@ nonzero_bits [] zs = refl
 nonzero_bits (u ∷ us) [] = refl
 nonzero_bits (u ∷ us) (z ∷ zs) = let here = nonzero_bit u z in let rest = nonzero_bits us zs in cc
 
-kept_entry : (b : Bool) (z : ℤ) → entry (is_some (cond b None (Some (Integer z)))) z ≡ cond b None (Some (Integer z))
+kept_entry : (b : Bool) (z : ℤ) → entry (is_some (cond b None (Some (IntegerValue z)))) z ≡ cond b None (Some (IntegerValue z))
 kept_entry true z = refl
 kept_entry false z = refl
 

@@ -1,5 +1,5 @@
 -- Rows of a product and a sum or a difference, in one pass and in two steps.
-use Rattle.std.proofs.Common.{◌⊎◌, ◌≡◌, ◌∙◌, ℤ, Bool, true, false, ◌&&◌, ℕ, List, [], ◌∷◌, length, map, refl, sym, ap, arith, Option, Some, None, option_map, option_and_then, is_some}
+use Rattle.std.proofs.Common.{◌≡◌, ◌∙◌, ℤ, Bool, true, false, ◌&&◌, ℕ, List, [], ◌∷◌, length, map, refl, sym, ap, arith, Option, Some, None, option_map, option_and_then, is_some}
 use Rattle.std.specs.List.{zip}
 use Rattle.std.specs.Simd.Lanes.{zip2, Each1}
 use Rattle.std.proofs.lemmas.List.{length-map}
@@ -16,9 +16,10 @@ use Rattle.px_types.specs.declared.value_type.ValueType.{ValueType}
 use Rattle.px_semantics.proofs.Joins.{broadcast_same, stretch_whole}
 use Rattle.px_semantics.proofs.FusedRows.{sum_with_product, difference_with_product, product_with_difference, two_steps, two_steps_left, three_turned}
 use Rattle.px_semantics.proofs.Joining.{of_type}
-use Rattle.std.specs.Prelude.{Result, Ok, Err, IfOk, IfErr}
+use Rattle.std.specs.Prelude.{Result, Ok, Err, IfOk}
+use Rattle.px_base.specs.Answer.{GivesOr}
 use Rattle.px_base.specs.declared.error.PlanError.{PlanError}
-use Rattle.px_base.specs.declared.error.PlanError.TheVariants.{OutOfMemory, ShapeMismatch}
+use Rattle.px_base.specs.declared.error.PlanError.TheVariants.{ShapeMismatch}
 use Rattle.px_column.specs.ColumnOf.{type_of, rows_of}
 use Rattle.px_column.specs.declared.buffer.Buffer.{Buffer}
 use Rattle.px_kernels.specs.Buffers.{values_of}
@@ -140,12 +141,6 @@ fused_none form a b c e = ap (option_map (of_type a.value_type)) e
 
 -- the same of an answer whose type and rows are known, and of a refusal
 pub fused_answer : (form : FusedOperator) (a b c : TypedRows) (r : Result Buffer PlanError) → IfOk r (λ d. type_of d ≡ a.value_type)
-    → IfOk r (λ d. Some (rows_of d) ≡ elementwise_three (fused_row form a.value_type) a.rows b.rows c.rows) → IfOk r (λ d. Some (values_of d) ≡ fused_rows form a b c)
+    → GivesOr ShapeMismatch rows_of r (elementwise_three (fused_row form a.value_type) a.rows b.rows c.rows) → GivesOr ShapeMismatch values_of r (fused_rows form a b c)
 fused_answer form a b c (Ok d) h e = fused_gives form a b c (values_of d) h e
-fused_answer form a b c (Err x) h e = tt
-
-pub fused_refusal : (form : FusedOperator) (a b c : TypedRows) (r : Result Buffer PlanError)
-    → IfErr r (λ e. (e ≡ OutOfMemory) ⊎ ((e ≡ ShapeMismatch) × (elementwise_three (fused_row form a.value_type) a.rows b.rows c.rows ≡ None)))
-    → IfErr r (λ e. (e ≡ OutOfMemory) ⊎ ((e ≡ ShapeMismatch) × (fused_rows form a b c ≡ None)))
-fused_refusal form a b c (Ok d) h = tt
-fused_refusal form a b c (Err x) h = refused x (fused_none form a b c) h
+fused_answer form a b c (Err x) h e = refused x (fused_none form a b c) e

@@ -1,6 +1,7 @@
 -- Answers of kernels, from the rows of their buffers.
 use Rattle.std.proofs.Common.{◌≡◌, ◌∙◌, ◌⊎◌, inl, inr, List, ap, Some, None, option_map}
-use Rattle.std.specs.Prelude.{Result, Ok, Err, IfOk, IfErr}
+use Rattle.std.specs.Prelude.{Result, Ok, Err, IfOk}
+use Rattle.px_base.specs.Answer.{GivesOr}
 use Rattle.px_base.specs.declared.error.PlanError.{PlanError}
 use Rattle.px_base.specs.declared.error.PlanError.TheVariants.{OutOfMemory, ShapeMismatch}
 use Rattle.px_types.specs.declared.operator.Operator.{Operator}
@@ -41,13 +42,7 @@ unfolding arith_rows
 arith_none o a b e = ap (option_map (of_type a.value_type)) e
 
 -- the same of an answer whose type and rows are known, and of a refusal
-pub arith_answer : (o : Operator) (a b : TypedRows) (r : Result Buffer PlanError) → IfOk r (λ c. type_of c ≡ a.value_type) → IfOk r (λ c. Some (rows_of c) ≡ elementwise (arith_row o a.value_type) a.rows b.rows)
-    → IfOk r (λ c. Some (values_of c) ≡ arith_rows o a b)
+pub arith_answer : (o : Operator) (a b : TypedRows) (r : Result Buffer PlanError) → IfOk r (λ c. type_of c ≡ a.value_type)
+    → GivesOr ShapeMismatch rows_of r (elementwise (arith_row o a.value_type) a.rows b.rows) → GivesOr ShapeMismatch values_of r (arith_rows o a b)
 arith_answer o a b (Ok c) h e = arith_gives o a b (values_of c) h e
-arith_answer o a b (Err x) h e = tt
-
-pub arith_refusal : (o : Operator) (a b : TypedRows) (r : Result Buffer PlanError)
-    → IfErr r (λ e. (e ≡ OutOfMemory) ⊎ ((e ≡ ShapeMismatch) × (elementwise (arith_row o a.value_type) a.rows b.rows ≡ None)))
-    → IfErr r (λ e. (e ≡ OutOfMemory) ⊎ ((e ≡ ShapeMismatch) × (arith_rows o a b ≡ None)))
-arith_refusal o a b (Ok c) h = tt
-arith_refusal o a b (Err x) h = refused x (arith_none o a b) h
+arith_answer o a b (Err x) h e = refused x (arith_none o a b) e

@@ -7,7 +7,7 @@ use Rattle.std.proofs.lemmas.Simd.{length-zip2}
 use Rattle.std.specs.Simd.Lanes.{zip2, Each1}
 use Rattle.px_semantics.specs.Selections.{select_row, select_all, select_rows, broadcast_length_three}
 use Rattle.px_semantics.specs.Logic.{is_true}
-use Rattle.px_semantics.specs.Rows.{Row, TypedRows, Truth, Text, Integer, entry, boolean_entry, IsRowOf, stretch}
+use Rattle.px_semantics.specs.Rows.{Row, TypedRows, BooleanValue, StringValue, IntegerValue, entry, boolean_entry, IsRowOf, stretch}
 use Rattle.px_types.specs.declared.value_type.ValueType.TheVariants.{Boolean}
 use Rattle.px_semantics.proofs.Joining.{of_type}
 use Rattle.px_kernels.specs.SelectedPlaces.{selected_bits, selected_places}
@@ -40,10 +40,10 @@ pick_false false true = refl
 pick_false false false = refl
 
 restored : (x : Row) → IsRowOf Boolean x → boolean_entry (is_true x) (is_some x) ≡ x
-restored (Some (Truth true)) h = refl
-restored (Some (Truth false)) h = refl
-restored (Some (Text s)) h = absurd h
-restored (Some (Integer z)) h = absurd h
+restored (Some (BooleanValue true)) h = refl
+restored (Some (BooleanValue false)) h = refl
+restored (Some (StringValue s)) h = absurd h
+restored (Some (IntegerValue z)) h = absurd h
 restored None h = refl
 
 select_bit : (b : Bool) (x y : Row) → IsRowOf Boolean x → IsRowOf Boolean y

@@ -5,13 +5,13 @@ use Rattle.std.proofs.lemmas.Simd.{length-zip2}
 use Rattle.std.proofs.lemmas.List.{length-map, length-replicate}
 use Rattle.px_semantics.specs.Comparisons.{equal, less, both_pass, test_row, match_rows}
 use Rattle.px_semantics.specs.Logic.{is_true, not_row}
-use Rattle.px_semantics.specs.Rows.{Row, Datum, Truth, Text, Integer, entry, boolean_entry, IsRowOf}
+use Rattle.px_semantics.specs.Rows.{Row, Datum, BooleanValue, StringValue, IntegerValue, entry, boolean_entry, IsRowOf}
 use Rattle.px_types.specs.declared.value_type.ValueType.TheVariants.{Boolean}
 use Rattle.px_arrays.specs.BitmapOf.{non_null}
 use Rattle.px_semantics.proofs.Joining.{zip2_flip}
 use Rattle.px_kernels.specs.Matches.{match_row, mismatch_row}
 
-test_entry : (f : Datum → Datum → Bool) (u v : Bool) (x y : ℤ) → boolean_entry (f (Integer x) (Integer y)) (u && v) ≡ test_row f (entry u x) (entry v y)
+test_entry : (f : Datum → Datum → Bool) (u v : Bool) (x y : ℤ) → boolean_entry (f (IntegerValue x) (IntegerValue y)) (u && v) ≡ test_row f (entry u x) (entry v y)
 test_entry f true true x y = refl
 test_entry f true false x y = refl
 test_entry f false true x y = refl
@@ -19,7 +19,7 @@ test_entry f false false x y = refl
 
 -- a test row by row: the bitmaps and the numbers apart
 pub test_entries : (f : Datum → Datum → Bool) (us vs : List Bool) (xs ys : List ℤ)
-    → zip2 boolean_entry (zip2 (λ x y. f (Integer x) (Integer y)) xs ys) (zip2 (λ u v. u && v) us vs) ≡ zip2 (test_row f) (zip2 entry us xs) (zip2 entry vs ys)
+    → zip2 boolean_entry (zip2 (λ x y. f (IntegerValue x) (IntegerValue y)) xs ys) (zip2 (λ u v. u && v) us vs) ≡ zip2 (test_row f) (zip2 entry us xs) (zip2 entry vs ys)
 test_entries f [] vs [] ys = refl
 test_entries f (u ∷ us) vs [] ys = refl
 test_entries f [] vs (x ∷ xs) [] = refl
@@ -36,31 +36,31 @@ pass_entries f [] ys = refl
 pass_entries f (x ∷ xs) [] = refl
 pass_entries f (x ∷ xs) (y ∷ ys) = ap (λ l. test_row f x y ∷ l) (pass_entries f xs ys)
 
-truth_test : (g : Bool → Bool → Bool) (f : Datum → Datum → Bool) → ((p q : Bool) → g p q ≡ f (Truth p) (Truth q)) → (x y : Row) → IsRowOf Boolean x → IsRowOf Boolean y
+boolean_test : (g : Bool → Bool → Bool) (f : Datum → Datum → Bool) → ((p q : Bool) → g p q ≡ f (BooleanValue p) (BooleanValue q)) → (x y : Row) → IsRowOf Boolean x → IsRowOf Boolean y
     → boolean_entry (g (is_true x) (is_true y)) (is_some x && is_some y) ≡ test_row f x y
-truth_test g f h (Some (Truth true)) (Some (Truth true)) p q = ap (λ t. Some (Truth t)) (h true true)
-truth_test g f h (Some (Truth true)) (Some (Truth false)) p q = ap (λ t. Some (Truth t)) (h true false)
-truth_test g f h (Some (Truth false)) (Some (Truth true)) p q = ap (λ t. Some (Truth t)) (h false true)
-truth_test g f h (Some (Truth false)) (Some (Truth false)) p q = ap (λ t. Some (Truth t)) (h false false)
-truth_test g f h (Some (Truth t)) None p q = refl
-truth_test g f h None y p q = refl
-truth_test g f h (Some (Text s)) y p q = absurd p
-truth_test g f h (Some (Integer z)) y p q = absurd p
-truth_test g f h (Some (Truth t)) (Some (Text s)) p q = absurd q
-truth_test g f h (Some (Truth t)) (Some (Integer z)) p q = absurd q
+boolean_test g f h (Some (BooleanValue true)) (Some (BooleanValue true)) p q = ap (λ t. Some (BooleanValue t)) (h true true)
+boolean_test g f h (Some (BooleanValue true)) (Some (BooleanValue false)) p q = ap (λ t. Some (BooleanValue t)) (h true false)
+boolean_test g f h (Some (BooleanValue false)) (Some (BooleanValue true)) p q = ap (λ t. Some (BooleanValue t)) (h false true)
+boolean_test g f h (Some (BooleanValue false)) (Some (BooleanValue false)) p q = ap (λ t. Some (BooleanValue t)) (h false false)
+boolean_test g f h (Some (BooleanValue t)) None p q = refl
+boolean_test g f h None y p q = refl
+boolean_test g f h (Some (StringValue s)) y p q = absurd p
+boolean_test g f h (Some (IntegerValue z)) y p q = absurd p
+boolean_test g f h (Some (BooleanValue t)) (Some (StringValue s)) p q = absurd q
+boolean_test g f h (Some (BooleanValue t)) (Some (IntegerValue z)) p q = absurd q
 
 -- a test of Booleans on their bitmaps
-pub truth_tests : (g : Bool → Bool → Bool) (f : Datum → Datum → Bool) → ((p q : Bool) → g p q ≡ f (Truth p) (Truth q)) → (xs ys : List Row) → Each1 (IsRowOf Boolean) xs → Each1 (IsRowOf Boolean) ys
+pub boolean_tests : (g : Bool → Bool → Bool) (f : Datum → Datum → Bool) → ((p q : Bool) → g p q ≡ f (BooleanValue p) (BooleanValue q)) → (xs ys : List Row) → Each1 (IsRowOf Boolean) xs → Each1 (IsRowOf Boolean) ys
     → zip2 boolean_entry (zip2 g (map is_true xs) (map is_true ys)) (zip2 (λ u v. u && v) (map is_some xs) (map is_some ys)) ≡ zip2 (test_row f) xs ys
-truth_tests g f h [] ys p q = refl
-truth_tests g f h (x ∷ xs) [] p q = refl
-truth_tests g f h (x ∷ xs) (y ∷ ys) p q = let here = truth_test g f h x y p.0 q.0 in let rest = truth_tests g f h xs ys p.1 q.1 in cc
+boolean_tests g f h [] ys p q = refl
+boolean_tests g f h (x ∷ xs) [] p q = refl
+boolean_tests g f h (x ∷ xs) (y ∷ ys) p q = let here = boolean_test g f h x y p.0 q.0 in let rest = boolean_tests g f h xs ys p.1 q.1 in cc
 
 -- not true, and true
 abbrev pub below : Bool → Bool → Bool
 below p q = (cond p (not q) q) && q
 
-pub below_is : (p q : Bool) → below p q ≡ less (Truth p) (Truth q)
+pub below_is : (p q : Bool) → below p q ≡ less (BooleanValue p) (BooleanValue q)
 below_is true true = refl
 below_is true false = refl
 below_is false true = refl
@@ -70,7 +70,7 @@ below_is false false = refl
 abbrev pub alike : Bool → Bool → Bool
 alike p q = not (cond p (not q) q)
 
-pub alike_is : (p q : Bool) → alike p q ≡ equal (Truth p) (Truth q)
+pub alike_is : (p q : Bool) → alike p q ≡ equal (BooleanValue p) (BooleanValue q)
 alike_is true true = refl
 alike_is true false = refl
 alike_is false true = refl
@@ -91,7 +91,7 @@ zip2_same f g h [] ys = refl
 zip2_same f g h (x ∷ xs) [] = refl
 zip2_same f g h (x ∷ xs) (y ∷ ys) = let here = h x y in let rest = zip2_same f g h xs ys in cc
 
-not_truth : (t : Bool) → not_row (Some (Truth t)) ≡ Some (Truth (not t))
+not_truth : (t : Bool) → not_row (Some (BooleanValue t)) ≡ Some (BooleanValue (not t))
 not_truth true = refl
 not_truth false = refl
 
@@ -115,12 +115,12 @@ flip_test f None None = refl
 pub flip_tests : (f : Datum → Datum → Bool) (xs ys : List Row) → zip2 (test_row f) ys xs ≡ zip2 (test_row (λ a b. f b a)) xs ys
 flip_tests f xs ys = zip2_flip (test_row f) ys xs ∙ zip2_same (λ x y. test_row f y x) (test_row (λ a b. f b a)) (flip_test f) xs ys
 
-truth_or_not : (t : Bool) → is_true (Some (Truth t)) || false ≡ t
-truth_or_not true = refl
-truth_or_not false = refl
+boolean_or_not : (t : Bool) → is_true (Some (BooleanValue t)) || false ≡ t
+boolean_or_not true = refl
+boolean_or_not false = refl
 
 match_flag : (x y : Row) → is_true (test_row equal x y) || not (is_some x || is_some y) ≡ match_rows x y
-match_flag (Some x) (Some y) = truth_or_not (equal x y)
+match_flag (Some x) (Some y) = boolean_or_not (equal x y)
 match_flag (Some x) None = refl
 match_flag None (Some y) = refl
 match_flag None None = refl

@@ -1,6 +1,6 @@
 //! Sums, differences, products and negations of buffers of one integer type, and negations of columns.
 ghost use Rattle.std.specs.Prelude.{◌≡◌, ◌⊎◌, map, Some, None, IfOk, IfErr, neg_ℤ};
-ghost use Rattle.px_base.specs.Answer.{GivesOrMemory};
+ghost use Rattle.px_base.specs.Answer.{GivesOrMemory, GivesOr};
 ghost use Rattle.px_semantics.specs.Arithmetic.{arith_row, negate_rows};
 ghost use Rattle.px_types.specs.Integers.{into, IsInteger};
 ghost use Rattle.px_semantics.specs.Rows.{on_integer, elementwise};
@@ -23,9 +23,8 @@ fn ring_integers<T: Integer>(
     b: &IntegerArray<T>,
 ) -> Result<IntegerArray<T>, PlanError>
     requires { IsRing op }
-    ensures rows { IfOk result (λ r. Some r ≡ elementwise (arith_row op T.value_type) a.now b.now) }
-    ensures err { IfErr result (λ e. (e ≡ PlanError.OutOfMemory)
-        ⊎ ((e ≡ PlanError.ShapeMismatch) × (elementwise (arith_row op T.value_type) a.now b.now ≡ None))) }
+    ensures rows { GivesOr PlanError.ShapeMismatch (λ r. r) result
+        (elementwise (arith_row op T.value_type) a.now b.now) }
 {
     match op {
         Operator::Plus => a.combine::<Sum>(alloc, b),
@@ -46,11 +45,8 @@ pub fn ring_buffers(
     requires integer { IsInteger (type_of a.now) }
     requires same { type_of a.now ≡ type_of b.now }
     ensures value_type { IfOk result (λ r. type_of r ≡ type_of a.now) }
-    ensures rows { IfOk result (λ r. Some (rows_of r)
-        ≡ elementwise (arith_row op (type_of a.now)) (rows_of a.now) (rows_of b.now)) }
-    ensures err { IfErr result (λ e. (e ≡ PlanError.OutOfMemory)
-        ⊎ ((e ≡ PlanError.ShapeMismatch) ×
-        (elementwise (arith_row op (type_of a.now)) (rows_of a.now) (rows_of b.now) ≡ None))) }
+    ensures rows { GivesOr PlanError.ShapeMismatch (λ r. rows_of r) result
+        (elementwise (arith_row op (type_of a.now)) (rows_of a.now) (rows_of b.now)) }
 {
     integers!((a, b) {} => Buffer ring_integers(alloc, op, a, b))
 }

@@ -1,9 +1,9 @@
 //! Casts of buffers and columns to other types.
 ghost use Rattle.std.specs.Prelude.{◌≡◌, ◌≢◌, ◌⊎◌, ◌&&◌, length, map, replicate, get_or, cond, is_some, not, pos, true, Bool, Some, None, IfOk, IfErr, IsTrue};
 ghost use Rattle.std.specs.Simd.Lanes.{zip2};
-ghost use Rattle.px_base.specs.Answer.{GivesOrMemory};
+ghost use Rattle.px_base.specs.Answer.{GivesOrMemory, GivesOr};
 ghost use Rattle.px_semantics.specs.Arithmetic.{is_zero};
-ghost use Rattle.px_semantics.specs.Casts.{as_integer, as_truth, cast_value, cast_row, cast_list, cast_to, any_lost, HasCast, IsScalar};
+ghost use Rattle.px_semantics.specs.Casts.{as_integer, as_boolean, cast_value, cast_row, cast_list, cast_to, any_lost, HasCast, IsScalar};
 ghost use Rattle.px_types.specs.Integers.{into};
 ghost use Rattle.px_semantics.specs.Rows.{Datum, Row};
 ghost use Rattle.px_types.specs.ValueTypes.{holds, value_type_of};
@@ -149,10 +149,8 @@ fn strict_integers<S: Integer, T: Integer>(
     alloc: Global,
     a: &IntegerArray<S>,
 ) -> Result<IntegerArray<T>, PlanError>
-    ensures rows { IfOk result (λ r. Some r ≡ cast_list option.Strict (as_integer option.Strict T.value_type) a.now) }
-    ensures err { IfErr result (λ e. (e ≡ PlanError.OutOfMemory)
-        ⊎ ((e ≡ PlanError.InvalidCast) × (cast_list option.Strict (as_integer option.Strict T.value_type) a.now
-        ≡ None))) }
+    ensures rows { GivesOr PlanError.InvalidCast (λ r. r) result
+        (cast_list option.Strict (as_integer option.Strict T.value_type) a.now) }
 {
     let rows = non_strict_integers::<S, T>(alloc, a)?;
     if loses_bit(a.valid(), rows.valid()) {
@@ -167,9 +165,8 @@ fn cast_integers<S: Integer, T: Residue>(
     a: &IntegerArray<S>,
     options: CastOptions,
 ) -> Result<IntegerArray<T>, PlanError>
-    ensures rows { IfOk result (λ r. Some r ≡ cast_list options (as_integer options T.value_type) a.now) }
-    ensures err { IfErr result (λ e. (e ≡ PlanError.OutOfMemory)
-        ⊎ ((e ≡ PlanError.InvalidCast) × (cast_list options (as_integer options T.value_type) a.now ≡ None))) }
+    ensures rows { GivesOr PlanError.InvalidCast (λ r. r) result
+        (cast_list options (as_integer options T.value_type) a.now) }
 {
     match options {
         CastOptions::Strict => strict_integers::<S, T>(alloc, a),
@@ -222,7 +219,7 @@ fn integers_as_booleans<T: Integer>(
     alloc: Global,
     a: &IntegerArray<T>,
 ) -> Result<BooleanArray, AllocError>
-    ensures { IfOk result (λ r. CastsAll as_truth a.now r) }
+    ensures { IfOk result (λ r. CastsAll as_boolean a.now r) }
 {
     let flags = nonzero_flags(alloc, a.values())?;
     let valid = a.valid().try_clone(alloc)?;
@@ -236,10 +233,8 @@ fn integers<T: Residue>(
     options: CastOptions,
 ) -> Result<IntegerArray<T>, PlanError>
     requires { IsScalar (type_of a.now) }
-    ensures rows { IfOk result (λ r. Some r ≡ cast_list options (as_integer options T.value_type) (rows_of a.now)) }
-    ensures err { IfErr result (λ e. (e ≡ PlanError.OutOfMemory)
-        ⊎ ((e ≡ PlanError.InvalidCast) × (cast_list options (as_integer options T.value_type) (rows_of a.now)
-        ≡ None))) }
+    ensures rows { GivesOr PlanError.InvalidCast (λ r. r) result
+        (cast_list options (as_integer options T.value_type) (rows_of a.now)) }
 {
     integers!((a) {
         Buffer::Null(len) => null_integers(alloc, *len),
@@ -251,7 +246,7 @@ fn integers<T: Residue>(
 fn as_booleans(alloc: Global, a: &Buffer) -> Result<BooleanArray, AllocError>
     requires scalar { IsScalar (type_of a.now) }
     requires other { type_of a.now ≢ value_type.Boolean }
-    ensures { IfOk result (λ r. CastsAll as_truth (rows_of a.now) r) }
+    ensures { IfOk result (λ r. CastsAll as_boolean (rows_of a.now) r) }
 {
     integers!((a) {
         Buffer::Null(len) => null_booleans(alloc, *len),
@@ -291,9 +286,8 @@ fn cast_values(
 ) -> Result<Buffer, PlanError>
     requires { HasCast (type_of a.now) (Some to) }
     ensures value_type { IfOk result (λ b. type_of b ≡ to) }
-    ensures rows { IfOk result (λ b. Some (rows_of b) ≡ cast_list options (cast_value options to) (rows_of a.now)) }
-    ensures err { IfErr result (λ e. (e ≡ PlanError.OutOfMemory)
-        ⊎ ((e ≡ PlanError.InvalidCast) × (cast_list options (cast_value options to) (rows_of a.now) ≡ None))) }
+    ensures rows { GivesOr PlanError.InvalidCast (λ b. rows_of b) result
+        (cast_list options (cast_value options to) (rows_of a.now)) }
 {
     prove!(a.len() <= u32::MAX);
     if a.value_type() == to {
@@ -310,7 +304,7 @@ fn cast_values(
         ValueType::UInt16 => Ok(Buffer::UInt16(integers(alloc, a, options)?)),
         ValueType::UInt32 => Ok(Buffer::UInt32(integers(alloc, a, options)?)),
         ValueType::UInt64 => Ok(Buffer::UInt64(integers(alloc, a, options)?)),
-        ValueType::String => Ok(Buffer::Text(null_strings(alloc, a.len())?)),
+        ValueType::String => Ok(Buffer::String(null_strings(alloc, a.len())?)),
     }
 }
 
@@ -327,9 +321,8 @@ pub fn cast_buffer(
     options: CastOptions,
 ) -> Result<Buffer, PlanError>
     requires { HasCast (type_of a.now) (value_type_of to.now) }
-    ensures rows { IfOk result (λ c. Some (values_of c) ≡ cast_to options to.now (values_of a.now)) }
-    ensures err { IfErr result (λ e. (e ≡ PlanError.OutOfMemory)
-        ⊎ ((e ≡ PlanError.InvalidCast) × (cast_to options to.now (values_of a.now) ≡ None))) }
+    ensures rows { GivesOr PlanError.InvalidCast (λ c. values_of c) result
+        (cast_to options to.now (values_of a.now)) }
 {
     let Some(value_type) = to.value_type() else {
         unreachable!();
@@ -346,9 +339,7 @@ pub fn cast(
 ) -> Result<Column, PlanError>
     requires { HasCast a.now.values.value_type (value_type_of to.now) }
     ensures name { IfOk result (λ c. c.name ≡ a.now.name) }
-    ensures rows { IfOk result (λ c. Some c.values ≡ cast_to options to.now a.now.values) }
-    ensures err { IfErr result (λ e. (e ≡ PlanError.OutOfMemory)
-        ⊎ ((e ≡ PlanError.InvalidCast) × (cast_to options to.now a.now.values ≡ None))) }
+    ensures rows { GivesOr PlanError.InvalidCast (λ c. c.values) result (cast_to options to.now a.now.values) }
 {
     let buffer = cast_buffer(alloc, a.buffer(), to, options)?;
     let name = a.name().try_clone(alloc)?;

@@ -1,5 +1,6 @@
 //! The eight comparisons of buffers and of columns.
 ghost use Rattle.std.specs.Prelude.{◌≡◌, ◌⊎◌, length, replicate, Some, None, not, IfOk, IfErr};
+ghost use Rattle.px_base.specs.Answer.{GivesOr};
 ghost use Rattle.std.specs.Simd.Lanes.{zip2};
 ghost use Rattle.px_semantics.specs.Comparisons.{less, equal, test_row, compare_row, compare_rows, IsComparison};
 ghost use Rattle.px_column.specs.ColumnOf.{type_of, rows_of};
@@ -32,7 +33,7 @@ fn less_rows(alloc: Global, a: &Buffer, b: &Buffer) -> Result<BooleanArray, Allo
     integers!((a, b) {
         (Buffer::Null(len), Buffer::Null(_)) => null_booleans(alloc, *len),
         (Buffer::Boolean(a), Buffer::Boolean(b)) => boolean_less(alloc, a, b),
-        (Buffer::Text(a), Buffer::Text(b)) => string_tests::<Less>(alloc, a, b),
+        (Buffer::String(a), Buffer::String(b)) => string_tests::<Less>(alloc, a, b),
     } => integer_tests::<_, Less>(alloc, a, b))
 }
 
@@ -45,7 +46,7 @@ fn same_rows(alloc: Global, a: &Buffer, b: &Buffer) -> Result<BooleanArray, Allo
     integers!((a, b) {
         (Buffer::Null(len), Buffer::Null(_)) => null_booleans(alloc, *len),
         (Buffer::Boolean(a), Buffer::Boolean(b)) => boolean_equal(alloc, a, b),
-        (Buffer::Text(a), Buffer::Text(b)) => string_tests::<Same>(alloc, a, b),
+        (Buffer::String(a), Buffer::String(b)) => string_tests::<Same>(alloc, a, b),
     } => integer_tests::<_, Same>(alloc, a, b))
 }
 
@@ -130,9 +131,8 @@ pub fn compare_buffers(
 ) -> Result<Buffer, PlanError>
     requires comparison { IsComparison op }
     requires same { type_of a.now ≡ type_of b.now }
-    ensures rows { IfOk result (λ c. Some (values_of c) ≡ compare_rows op (values_of a.now) (values_of b.now)) }
-    ensures err { IfErr result (λ e. (e ≡ PlanError.OutOfMemory)
-        ⊎ ((e ≡ PlanError.ShapeMismatch) × (compare_rows op (values_of a.now) (values_of b.now) ≡ None))) }
+    ensures rows { GivesOr PlanError.ShapeMismatch (λ c. values_of c) result
+        (compare_rows op (values_of a.now) (values_of b.now)) }
 {
     let Some(len) = join_lengths(a.len(), b.len()) else {
         return Err(PlanError::ShapeMismatch);
@@ -148,9 +148,8 @@ pub fn compare(alloc: Global, op: Operator, a: &Column, b: &Column) -> Result<Co
     requires comparison { IsComparison op }
     requires same { a.now.values.value_type ≡ b.now.values.value_type }
     ensures name { IfOk result (λ c. c.name ≡ a.now.name) }
-    ensures rows { IfOk result (λ c. Some c.values ≡ compare_rows op a.now.values b.now.values) }
-    ensures err { IfErr result (λ e. (e ≡ PlanError.OutOfMemory)
-        ⊎ ((e ≡ PlanError.ShapeMismatch) × (compare_rows op a.now.values b.now.values ≡ None))) }
+    ensures rows { GivesOr PlanError.ShapeMismatch (λ c. c.values) result
+        (compare_rows op a.now.values b.now.values) }
 {
     let buffer = compare_buffers(alloc, op, a.buffer(), b.buffer())?;
     let name = a.name().try_clone(alloc)?;

@@ -1,5 +1,6 @@
 //! A product and a sum or a difference in one step, on buffers and columns of one integer type.
 ghost use Rattle.std.specs.Prelude.{◌≡◌, ◌⊎◌, length, map, is_some, Some, None, IfOk, IfErr};
+ghost use Rattle.px_base.specs.Answer.{GivesOr};
 ghost use Rattle.px_semantics.specs.Fused.{fused, fused_row, fused_rows, zip3, elementwise_three};
 ghost use Rattle.px_types.specs.Integers.{into, IsInteger};
 ghost use Rattle.px_types.specs.declared.function.FusedOperator.{FusedOperator};
@@ -150,13 +151,8 @@ fn plus_product(alloc: Global, a: &Buffer, b: &Buffer, c: &Buffer) -> Result<Buf
     requires same { type_of a.now ≡ type_of b.now }
     requires third { type_of b.now ≡ type_of c.now }
     ensures value_type { IfOk result (λ r. type_of r ≡ type_of a.now) }
-    ensures rows { IfOk result (λ r. Some (rows_of r)
-        ≡ elementwise_three (fused_row form.MultiplyAdd (type_of a.now)) (rows_of a.now) (rows_of b.now)
-        (rows_of c.now)) }
-    ensures err { IfErr result (λ e. (e ≡ PlanError.OutOfMemory)
-        ⊎ ((e ≡ PlanError.ShapeMismatch) ×
-        (elementwise_three (fused_row form.MultiplyAdd (type_of a.now)) (rows_of a.now) (rows_of b.now)
-        (rows_of c.now) ≡ None))) }
+    ensures rows { GivesOr PlanError.ShapeMismatch (λ r. rows_of r) result
+        (elementwise_three (fused_row form.MultiplyAdd (type_of a.now)) (rows_of a.now) (rows_of b.now) (rows_of c.now)) }
 {
     let product = ring_buffers(alloc, Operator::Multiply, b, c)?;
     ring_buffers(alloc, Operator::Plus, a, &product)
@@ -168,13 +164,8 @@ fn minus_product(alloc: Global, a: &Buffer, b: &Buffer, c: &Buffer) -> Result<Bu
     requires same { type_of a.now ≡ type_of b.now }
     requires third { type_of b.now ≡ type_of c.now }
     ensures value_type { IfOk result (λ r. type_of r ≡ type_of a.now) }
-    ensures rows { IfOk result (λ r. Some (rows_of r)
-        ≡ elementwise_three (fused_row form.SubMultiply (type_of a.now)) (rows_of a.now) (rows_of b.now)
-        (rows_of c.now)) }
-    ensures err { IfErr result (λ e. (e ≡ PlanError.OutOfMemory)
-        ⊎ ((e ≡ PlanError.ShapeMismatch) ×
-        (elementwise_three (fused_row form.SubMultiply (type_of a.now)) (rows_of a.now) (rows_of b.now)
-        (rows_of c.now) ≡ None))) }
+    ensures rows { GivesOr PlanError.ShapeMismatch (λ r. rows_of r) result
+        (elementwise_three (fused_row form.SubMultiply (type_of a.now)) (rows_of a.now) (rows_of b.now) (rows_of c.now)) }
 {
     let product = ring_buffers(alloc, Operator::Multiply, b, c)?;
     ring_buffers(alloc, Operator::Minus, a, &product)
@@ -186,13 +177,8 @@ fn product_minus(alloc: Global, a: &Buffer, b: &Buffer, c: &Buffer) -> Result<Bu
     requires same { type_of a.now ≡ type_of b.now }
     requires third { type_of b.now ≡ type_of c.now }
     ensures value_type { IfOk result (λ r. type_of r ≡ type_of a.now) }
-    ensures rows { IfOk result (λ r. Some (rows_of r)
-        ≡ elementwise_three (fused_row form.MultiplySub (type_of a.now)) (rows_of a.now) (rows_of b.now)
-        (rows_of c.now)) }
-    ensures err { IfErr result (λ e. (e ≡ PlanError.OutOfMemory)
-        ⊎ ((e ≡ PlanError.ShapeMismatch) ×
-        (elementwise_three (fused_row form.MultiplySub (type_of a.now)) (rows_of a.now) (rows_of b.now)
-        (rows_of c.now) ≡ None))) }
+    ensures rows { GivesOr PlanError.ShapeMismatch (λ r. rows_of r) result
+        (elementwise_three (fused_row form.MultiplySub (type_of a.now)) (rows_of a.now) (rows_of b.now) (rows_of c.now)) }
 {
     let product = ring_buffers(alloc, Operator::Multiply, a, b)?;
     ring_buffers(alloc, Operator::Minus, &product, c)
@@ -210,11 +196,8 @@ fn stepped_buffers(
     requires same { type_of a.now ≡ type_of b.now }
     requires third { type_of b.now ≡ type_of c.now }
     ensures value_type { IfOk result (λ r. type_of r ≡ type_of a.now) }
-    ensures rows { IfOk result (λ r. Some (rows_of r)
-        ≡ elementwise_three (fused_row op (type_of a.now)) (rows_of a.now) (rows_of b.now) (rows_of c.now)) }
-    ensures err { IfErr result (λ e. (e ≡ PlanError.OutOfMemory)
-        ⊎ ((e ≡ PlanError.ShapeMismatch) ×
-        (elementwise_three (fused_row op (type_of a.now)) (rows_of a.now) (rows_of b.now) (rows_of c.now) ≡ None))) }
+    ensures rows { GivesOr PlanError.ShapeMismatch (λ r. rows_of r) result
+        (elementwise_three (fused_row op (type_of a.now)) (rows_of a.now) (rows_of b.now) (rows_of c.now)) }
 {
     match op {
         FusedOperator::MultiplyAdd => plus_product(alloc, a, b, c),
@@ -235,11 +218,8 @@ fn fuse(
     requires same { type_of a.now ≡ type_of b.now }
     requires third { type_of b.now ≡ type_of c.now }
     ensures value_type { IfOk result (λ r. type_of r ≡ type_of a.now) }
-    ensures rows { IfOk result (λ r. Some (rows_of r)
-        ≡ elementwise_three (fused_row op (type_of a.now)) (rows_of a.now) (rows_of b.now) (rows_of c.now)) }
-    ensures err { IfErr result (λ e. (e ≡ PlanError.OutOfMemory)
-        ⊎ ((e ≡ PlanError.ShapeMismatch) ×
-        (elementwise_three (fused_row op (type_of a.now)) (rows_of a.now) (rows_of b.now) (rows_of c.now) ≡ None))) }
+    ensures rows { GivesOr PlanError.ShapeMismatch (λ r. rows_of r) result
+        (elementwise_three (fused_row op (type_of a.now)) (rows_of a.now) (rows_of b.now) (rows_of c.now)) }
 {
     let len = a.len();
     if len == b.len() && len == c.len() {
@@ -262,11 +242,8 @@ pub fn fused_buffers(
     requires integer { IsInteger (type_of a.now) }
     requires same { type_of a.now ≡ type_of b.now }
     requires third { type_of b.now ≡ type_of c.now }
-    ensures rows { IfOk result (λ d. Some (values_of d)
-        ≡ fused_rows op (values_of a.now) (values_of b.now) (values_of c.now)) }
-    ensures err { IfErr result (λ e. (e ≡ PlanError.OutOfMemory)
-        ⊎ ((e ≡ PlanError.ShapeMismatch) × (fused_rows op (values_of a.now) (values_of b.now) (values_of c.now)
-        ≡ None))) }
+    ensures rows { GivesOr PlanError.ShapeMismatch (λ d. values_of d) result
+        (fused_rows op (values_of a.now) (values_of b.now) (values_of c.now)) }
 {
     fuse(alloc, op, a, b, c)
 }
@@ -283,9 +260,8 @@ pub fn fused(
     requires same { a.now.values.value_type ≡ b.now.values.value_type }
     requires third { b.now.values.value_type ≡ c.now.values.value_type }
     ensures name { IfOk result (λ d. d.name ≡ a.now.name) }
-    ensures rows { IfOk result (λ d. Some d.values ≡ fused_rows op a.now.values b.now.values c.now.values) }
-    ensures err { IfErr result (λ e. (e ≡ PlanError.OutOfMemory)
-        ⊎ ((e ≡ PlanError.ShapeMismatch) × (fused_rows op a.now.values b.now.values c.now.values ≡ None))) }
+    ensures rows { GivesOr PlanError.ShapeMismatch (λ d. d.values) result
+        (fused_rows op a.now.values b.now.values c.now.values) }
 {
     let buffer = fused_buffers(alloc, op, a.buffer(), b.buffer(), c.buffer())?;
     let name = a.name().try_clone(alloc)?;

@@ -1,6 +1,6 @@
 //! Three-valued logic on columns, bit by bit on integers, and tests for null.
 ghost use Rattle.std.specs.Prelude.{◌≡◌, ◌⊎◌, Some, None, IfOk, IfErr};
-ghost use Rattle.px_base.specs.Answer.{GivesOrMemory};
+ghost use Rattle.px_base.specs.Answer.{GivesOrMemory, GivesOr};
 ghost use Rattle.px_types.specs.Integers.{IsInteger};
 ghost use Rattle.px_semantics.specs.Logic.{logic_rows, inverse_rows, null_row, value_row, tested_rows};
 ghost use Rattle.px_semantics.specs.Rows.{IsBoolean};
@@ -20,9 +20,8 @@ pub fn kleene_and(alloc: Global, a: &Column, b: &Column) -> Result<Column, PlanE
     requires operand { IsBoolean a.now.values.value_type ⊎ IsInteger a.now.values.value_type }
     requires same { a.now.values.value_type ≡ b.now.values.value_type }
     ensures name { IfOk result (λ c. c.name ≡ a.now.name) }
-    ensures rows { IfOk result (λ c. Some c.values ≡ logic_rows And a.now.values b.now.values) }
-    ensures err { IfErr result (λ e. (e ≡ PlanError.OutOfMemory)
-        ⊎ ((e ≡ PlanError.ShapeMismatch) × (logic_rows And a.now.values b.now.values ≡ None))) }
+    ensures rows { GivesOr PlanError.ShapeMismatch (λ c. c.values) result
+        (logic_rows And a.now.values b.now.values) }
 {
     let buffer = a.buffer().logic(alloc, Operator::And, b.buffer())?;
     let name = a.name().try_clone(alloc)?;
@@ -35,9 +34,8 @@ pub fn kleene_or(alloc: Global, a: &Column, b: &Column) -> Result<Column, PlanEr
     requires operand { IsBoolean a.now.values.value_type ⊎ IsInteger a.now.values.value_type }
     requires same { a.now.values.value_type ≡ b.now.values.value_type }
     ensures name { IfOk result (λ c. c.name ≡ a.now.name) }
-    ensures rows { IfOk result (λ c. Some c.values ≡ logic_rows Or a.now.values b.now.values) }
-    ensures err { IfErr result (λ e. (e ≡ PlanError.OutOfMemory)
-        ⊎ ((e ≡ PlanError.ShapeMismatch) × (logic_rows Or a.now.values b.now.values ≡ None))) }
+    ensures rows { GivesOr PlanError.ShapeMismatch (λ c. c.values) result
+        (logic_rows Or a.now.values b.now.values) }
 {
     let buffer = a.buffer().logic(alloc, Operator::Or, b.buffer())?;
     let name = a.name().try_clone(alloc)?;
@@ -50,9 +48,8 @@ pub fn kleene_xor(alloc: Global, a: &Column, b: &Column) -> Result<Column, PlanE
     requires operand { IsBoolean a.now.values.value_type ⊎ IsInteger a.now.values.value_type }
     requires same { a.now.values.value_type ≡ b.now.values.value_type }
     ensures name { IfOk result (λ c. c.name ≡ a.now.name) }
-    ensures rows { IfOk result (λ c. Some c.values ≡ logic_rows Xor a.now.values b.now.values) }
-    ensures err { IfErr result (λ e. (e ≡ PlanError.OutOfMemory)
-        ⊎ ((e ≡ PlanError.ShapeMismatch) × (logic_rows Xor a.now.values b.now.values ≡ None))) }
+    ensures rows { GivesOr PlanError.ShapeMismatch (λ c. c.values) result
+        (logic_rows Xor a.now.values b.now.values) }
 {
     let buffer = a.buffer().logic(alloc, Operator::Xor, b.buffer())?;
     let name = a.name().try_clone(alloc)?;

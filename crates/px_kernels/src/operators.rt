@@ -1,5 +1,6 @@
 //! The six operators of arithmetic on buffers and columns of one integer type.
 ghost use Rattle.std.specs.Prelude.{◌≡◌, ◌⊎◌, length, map, is_some, Some, None, IfOk, IfErr};
+ghost use Rattle.px_base.specs.Answer.{GivesOr};
 ghost use Rattle.std.specs.Simd.Lanes.{zip2};
 ghost use Rattle.px_semantics.specs.Arithmetic.{arith_rows, lift_nonzero, nonzero_row, IsArithmetic};
 ghost use Rattle.px_types.specs.Integers.{IsInteger};
@@ -73,9 +74,8 @@ fn divided<T: Integer, O: Operation<T>>(
     a: &IntegerArray<T>,
     b: &IntegerArray<T>,
 ) -> Result<IntegerArray<T>, PlanError>
-    ensures rows { IfOk result (λ r. Some r ≡ elementwise (lift_nonzero O.meaning) a.now b.now) }
-    ensures err { IfErr result (λ e. (e ≡ PlanError.OutOfMemory)
-        ⊎ ((e ≡ PlanError.ShapeMismatch) × (elementwise (lift_nonzero O.meaning) a.now b.now ≡ None))) }
+    ensures rows { GivesOr PlanError.ShapeMismatch (λ r. r) result
+        (elementwise (lift_nonzero O.meaning) a.now b.now) }
 {
     let m = a.len();
     let n = b.len();
@@ -98,11 +98,8 @@ fn quotient_buffers(alloc: Global, a: &Buffer, b: &Buffer) -> Result<Buffer, Pla
     requires integer { IsInteger (type_of a.now) }
     requires same { type_of a.now ≡ type_of b.now }
     ensures value_type { IfOk result (λ r. type_of r ≡ type_of a.now) }
-    ensures rows { IfOk result (λ r. Some (rows_of r)
-        ≡ elementwise (lift_nonzero (quotient_of (type_of a.now))) (rows_of a.now) (rows_of b.now)) }
-    ensures err { IfErr result (λ e. (e ≡ PlanError.OutOfMemory)
-        ⊎ ((e ≡ PlanError.ShapeMismatch) ×
-        (elementwise (lift_nonzero (quotient_of (type_of a.now))) (rows_of a.now) (rows_of b.now) ≡ None))) }
+    ensures rows { GivesOr PlanError.ShapeMismatch (λ r. rows_of r) result
+        (elementwise (lift_nonzero (quotient_of (type_of a.now))) (rows_of a.now) (rows_of b.now)) }
 {
     integers!((a, b) {} => Buffer divided::<_, Quotient>(alloc, a, b))
 }
@@ -112,11 +109,8 @@ fn remainder_buffers(alloc: Global, a: &Buffer, b: &Buffer) -> Result<Buffer, Pl
     requires integer { IsInteger (type_of a.now) }
     requires same { type_of a.now ≡ type_of b.now }
     ensures value_type { IfOk result (λ r. type_of r ≡ type_of a.now) }
-    ensures rows { IfOk result (λ r. Some (rows_of r)
-        ≡ elementwise (lift_nonzero remainder_of) (rows_of a.now) (rows_of b.now)) }
-    ensures err { IfErr result (λ e. (e ≡ PlanError.OutOfMemory)
-        ⊎ ((e ≡ PlanError.ShapeMismatch) × (elementwise (lift_nonzero remainder_of) (rows_of a.now) (rows_of b.now)
-        ≡ None))) }
+    ensures rows { GivesOr PlanError.ShapeMismatch (λ r. rows_of r) result
+        (elementwise (lift_nonzero remainder_of) (rows_of a.now) (rows_of b.now)) }
 {
     integers!((a, b) {} => Buffer divided::<_, Remainder>(alloc, a, b))
 }
@@ -135,9 +129,8 @@ pub fn arith_buffers(
     requires arithmetic { IsArithmetic op }
     requires integer { IsInteger (type_of a.now) }
     requires same { type_of a.now ≡ type_of b.now }
-    ensures rows { IfOk result (λ c. Some (values_of c) ≡ arith_rows op (values_of a.now) (values_of b.now)) }
-    ensures err { IfErr result (λ e. (e ≡ PlanError.OutOfMemory)
-        ⊎ ((e ≡ PlanError.ShapeMismatch) × (arith_rows op (values_of a.now) (values_of b.now) ≡ None))) }
+    ensures rows { GivesOr PlanError.ShapeMismatch (λ c. values_of c) result
+        (arith_rows op (values_of a.now) (values_of b.now)) }
 {
     match op {
         Operator::Plus => ring_buffers(alloc, op, a, b),
@@ -156,9 +149,8 @@ pub fn arith(alloc: Global, op: Operator, a: &Column, b: &Column) -> Result<Colu
     requires integer { IsInteger a.now.values.value_type }
     requires same { a.now.values.value_type ≡ b.now.values.value_type }
     ensures name { IfOk result (λ c. c.name ≡ a.now.name) }
-    ensures rows { IfOk result (λ c. Some c.values ≡ arith_rows op a.now.values b.now.values) }
-    ensures err { IfErr result (λ e. (e ≡ PlanError.OutOfMemory)
-        ⊎ ((e ≡ PlanError.ShapeMismatch) × (arith_rows op a.now.values b.now.values ≡ None))) }
+    ensures rows { GivesOr PlanError.ShapeMismatch (λ c. c.values) result
+        (arith_rows op a.now.values b.now.values) }
 {
     let buffer = arith_buffers(alloc, op, a.buffer(), b.buffer())?;
     let name = a.name().try_clone(alloc)?;

@@ -4,7 +4,7 @@ ghost use Rattle.std.specs.List.{zip};
 ghost use Rattle.std.specs.Option.{option_copied};
 ghost use Rattle.std.specs.Simd.Lanes.{zip2};
 ghost use Rattle.px_semantics.specs.Comparisons.{less, equal, both_pass, test_row};
-ghost use Rattle.px_semantics.specs.Rows.{Datum, Integer, Text, string_row};
+ghost use Rattle.px_semantics.specs.Rows.{Datum, IntegerValue, StringValue, string_row};
 
 use px_arrays::{BooleanArray, IntegerArray, StringArray};
 use px_integers::Integer;
@@ -16,7 +16,7 @@ pub trait Test<T: Integer> {
     ghost meaning: { Datum → Datum → Bool };
 
     fn test(x: T, y: T) -> bool
-        ensures { result ≡ meaning (Integer (T.integer x)) (Integer (T.integer y)) };
+        ensures { result ≡ meaning (IntegerValue (T.integer x)) (IntegerValue (T.integer y)) };
 }
 
 /// Whether the first is less.
@@ -44,7 +44,7 @@ impl<T: Integer> Test<T> for Same {
 /// Place by place the test.
 fn flags<T: Integer, F: Test<T>>(alloc: Global, a: &[T], b: &[T]) -> Result<Vec<bool>, AllocError>
     ensures { IfOk result (λ v. v.items ≡ map
-        (λ p. F.meaning (Integer (T.integer p.0)) (Integer (T.integer p.1))) (zip a.now b.now)) }
+        (λ p. F.meaning (IntegerValue (T.integer p.0)) (IntegerValue (T.integer p.1))) (zip a.now b.now)) }
 {
     a.iter().zip(b).map(|(x, y)| F::test(*x, *y)).collect(alloc)
 }
@@ -64,14 +64,14 @@ pub fn integer_tests<T: Integer, F: Test<T>>(
 }
 
 /// A test of two strings.
-pub trait TextTest {
+pub trait StringTest {
     ghost meaning: { Datum → Datum → Bool };
 
     fn test(x: &str, y: &str) -> bool
-        ensures { result ≡ meaning (Text x.now) (Text y.now) };
+        ensures { result ≡ meaning (StringValue x.now) (StringValue y.now) };
 }
 
-impl TextTest for Less {
+impl StringTest for Less {
     ghost meaning = { less };
 
     fn test(x: &str, y: &str) -> bool {
@@ -79,7 +79,7 @@ impl TextTest for Less {
     }
 }
 
-impl TextTest for Same {
+impl StringTest for Same {
     ghost meaning = { equal };
 
     fn test(x: &str, y: &str) -> bool {
@@ -88,7 +88,7 @@ impl TextTest for Same {
 }
 
 /// Whether two strings pass the test, false where one is missing.
-fn strings_pass<F: TextTest>(x: Option<&str>, y: Option<&str>) -> bool
+fn strings_pass<F: StringTest>(x: Option<&str>, y: Option<&str>) -> bool
     ensures { result ≡ both_pass F.meaning (string_row (option_copied x.entry)) (string_row (option_copied y.entry)) }
 {
     match (x, y) {
@@ -98,7 +98,7 @@ fn strings_pass<F: TextTest>(x: Option<&str>, y: Option<&str>) -> bool
 }
 
 /// Row by row the test of two lists of strings, null where one is null.
-pub fn string_tests<F: TextTest>(
+pub fn string_tests<F: StringTest>(
     alloc: Global,
     a: &StringArray,
     b: &StringArray,

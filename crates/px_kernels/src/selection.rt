@@ -1,7 +1,7 @@
 //! Rows of two buffers or columns selected by a mask.
 ghost use Rattle.std.specs.Prelude.{◌≡◌, ◌⊎◌, ◌<◌, cond, length, map, pos, get_or, false, Some, None, IfOk, IfErr};
 ghost use Rattle.std.specs.Option.{option_copied};
-ghost use Rattle.px_base.specs.Answer.{GivesOrMemory};
+ghost use Rattle.px_base.specs.Answer.{GivesOrMemory, GivesOr};
 ghost use Rattle.px_semantics.specs.Selections.{select_row, select_all, select_rows};
 ghost use Rattle.px_semantics.specs.Logic.{is_true};
 ghost use Rattle.px_semantics.specs.Rows.{IsBoolean, string_row};
@@ -144,7 +144,7 @@ fn selected_rows(
     integers!((a, b) {
         (Buffer::Null(len), Buffer::Null(_)) => Ok(Buffer::Null(*len)),
         (Buffer::Boolean(a), Buffer::Boolean(b)) => Ok(Buffer::Boolean(select_booleans(alloc, mask, a, b)?)),
-        (Buffer::Text(a), Buffer::Text(b)) => Ok(Buffer::Text(select_strings(alloc, mask, a, b)?)),
+        (Buffer::String(a), Buffer::String(b)) => Ok(Buffer::String(select_strings(alloc, mask, a, b)?)),
     } => Buffer select_integers(alloc, mask, a, b))
 }
 
@@ -180,11 +180,8 @@ pub fn zip_with_buffers(
 ) -> Result<Buffer, PlanError>
     requires mask { IsBoolean (type_of mask.now) }
     requires same { type_of a.now ≡ type_of b.now }
-    ensures rows { IfOk result (λ c. Some (values_of c)
-        ≡ select_rows (values_of mask.now) (values_of a.now) (values_of b.now)) }
-    ensures err { IfErr result (λ e. (e ≡ PlanError.OutOfMemory)
-        ⊎ ((e ≡ PlanError.ShapeMismatch) × (select_rows (values_of mask.now) (values_of a.now) (values_of b.now)
-        ≡ None))) }
+    ensures rows { GivesOr PlanError.ShapeMismatch (λ c. values_of c) result
+        (select_rows (values_of mask.now) (values_of a.now) (values_of b.now)) }
 {
     let Some(len) = join_three_lengths(mask.len(), a.len(), b.len()) else {
         return Err(PlanError::ShapeMismatch);
@@ -205,9 +202,8 @@ pub fn zip_with(alloc: Global, mask: &Column, a: &Column, b: &Column) -> Result<
     requires mask { IsBoolean mask.now.values.value_type }
     requires same { a.now.values.value_type ≡ b.now.values.value_type }
     ensures name { IfOk result (λ c. c.name ≡ a.now.name) }
-    ensures rows { IfOk result (λ c. Some c.values ≡ select_rows mask.now.values a.now.values b.now.values) }
-    ensures err { IfErr result (λ e. (e ≡ PlanError.OutOfMemory)
-        ⊎ ((e ≡ PlanError.ShapeMismatch) × (select_rows mask.now.values a.now.values b.now.values ≡ None))) }
+    ensures rows { GivesOr PlanError.ShapeMismatch (λ c. c.values) result
+        (select_rows mask.now.values a.now.values b.now.values) }
 {
     let buffer = zip_with_buffers(alloc, mask.buffer(), a.buffer(), b.buffer())?;
     let name = a.name().try_clone(alloc)?;

@@ -28,7 +28,7 @@ typed_rows k a h = subst (λ (j : ValueType). Each1 (IsRowOf j) a.rows) h.value_
 
 -- rows of a type, fewer than 2^32, are a column
 pub is_column_of : (k : ValueType) (rows : List Row) → length rows < 2 ^ 32 → Each1 (IsRowOf k) rows → IsColumnOf k (record { value_type = k; rows = rows })
-is_column_of k rows few typed = record { value_type = refl; column = record { few = few; typed = typed } }
+is_column_of k rows below_limit typed = record { value_type = refl; column = record { below_limit = below_limit; typed = typed } }
 
 -- what lengths broadcast to
 pub record Joins (m n l : ℕ) : Type 0 where
@@ -79,12 +79,12 @@ broadcast_rows-typed i j k f h a b v ha hb e =
     let left = stretch-long a.rows n to.left in
     let right = stretch-long b.rows n to.right in
     let long : length (zip2 f (stretch n a.rows) (stretch n b.rows)) ≡ n = length-zip2 f (stretch n a.rows) (stretch n b.rows) (left ∙ sym right) ∙ left in
-    let few : n < 2 ^ 32 = elim to.either [ inl p ↦ subst (λ (x : ℕ). x < 2 ^ 32) (sym p) ha.column.few | inr p ↦ subst (λ (x : ℕ). x < 2 ^ 32) (sym p) hb.column.few ] in
+    let below_limit : n < 2 ^ 32 = elim to.either [ inl p ↦ subst (λ (x : ℕ). x < 2 ^ 32) (sym p) ha.column.below_limit | inr p ↦ subst (λ (x : ℕ). x < 2 ^ 32) (sym p) hb.column.below_limit ] in
     let typed : Each1 (IsRowOf k) (zip2 f (stretch n a.rows) (stretch n b.rows)) =
     zip2-typed (IsRowOf i) (IsRowOf j) (IsRowOf k) f h (stretch n a.rows) (stretch n b.rows) (stretch-typed (IsRowOf i) tt n a.rows (typed_rows i a ha)) (stretch-typed (IsRowOf j) tt n b.rows (typed_rows j b hb)) in
     subst (IsColumnOf k) same
     (subst (λ (z : List Row). IsColumnOf k (record { value_type = k; rows = z })) made
-    (is_column_of k (zip2 f (stretch n a.rows) (stretch n b.rows)) (subst (λ (x : ℕ). x < 2 ^ 32) (sym long) few) typed))
+    (is_column_of k (zip2 f (stretch n a.rows) (stretch n b.rows)) (subst (λ (x : ℕ). x < 2 ^ 32) (sym long) below_limit) typed))
 
 pub map-typed : (P Q : Row → Type 0) (f : Row → Row) → ((r : Row) → P r → Q (f r)) → (rows : List Row) → Each1 P rows → Each1 Q (map f rows)
 map-typed P Q f h [] p = tt
@@ -93,7 +93,7 @@ map-typed P Q f h (r ∷ rows) p = (h r p.0, map-typed P Q f h rows p.1)
 -- f of each row of a column is a column
 pub map-column : (j k : ValueType) (f : Row → Row) → ((r : Row) → IsRowOf j r → IsRowOf k (f r)) → (a : TypedRows) → IsColumnOf j a → IsColumnOf k (record { value_type = k; rows = map f a.rows })
 map-column j k f h a ha =
-    is_column_of k (map f a.rows) (subst (λ (n : ℕ). n < 2 ^ 32) (sym (length-map a.rows f)) ha.column.few) (map-typed (IsRowOf j) (IsRowOf k) f h a.rows (typed_rows j a ha))
+    is_column_of k (map f a.rows) (subst (λ (n : ℕ). n < 2 ^ 32) (sym (length-map a.rows f)) ha.column.below_limit) (map-typed (IsRowOf j) (IsRowOf k) f h a.rows (typed_rows j a ha))
 
 -- three lengths that broadcast
 pub record JoinsThree (m n p l : ℕ) : Type 0 where
@@ -131,26 +131,26 @@ zip3-typed k f h (x ∷ xs) [] zs = tt
 zip3-typed k f h (x ∷ xs) (y ∷ ys) [] = tt
 zip3-typed k f h (x ∷ xs) (y ∷ ys) (z ∷ zs) = (h x y z, zip3-typed k f h xs ys zs)
 
-pub choose-long : (ms xs ys : List Row) → length ms ≡ length xs → length xs ≡ length ys → length (select_all ms xs ys) ≡ length ms
-choose-long [] xs ys e g = refl
-choose-long (m ∷ ms) [] ys e g = absurd (omega arith)
-choose-long (m ∷ ms) (x ∷ xs) [] e g = absurd (omega arith)
-choose-long (m ∷ ms) (x ∷ xs) (y ∷ ys) e g = let h : length (select_all ms xs ys) ≡ length ms = choose-long ms xs ys (omega arith) (omega arith) in omega arith
+pub select_all-length : (ms xs ys : List Row) → length ms ≡ length xs → length xs ≡ length ys → length (select_all ms xs ys) ≡ length ms
+select_all-length [] xs ys e g = refl
+select_all-length (m ∷ ms) [] ys e g = absurd (omega arith)
+select_all-length (m ∷ ms) (x ∷ xs) [] e g = absurd (omega arith)
+select_all-length (m ∷ ms) (x ∷ xs) (y ∷ ys) e g = let h : length (select_all ms xs ys) ≡ length ms = select_all-length ms xs ys (omega arith) (omega arith) in omega arith
 
-pub choose-typed : (P : Row → Type 0) (ms xs ys : List Row) → Each1 P xs → Each1 P ys → Each1 P (select_all ms xs ys)
-choose-typed P [] xs ys p q = tt
-choose-typed P (m ∷ ms) [] ys p q = tt
-choose-typed P (m ∷ ms) (x ∷ xs) [] p q = tt
-choose-typed P (m ∷ ms) (x ∷ xs) (y ∷ ys) p q = (go (is_true m), choose-typed P ms xs ys p.1 q.1)
+pub select_all-typed : (P : Row → Type 0) (ms xs ys : List Row) → Each1 P xs → Each1 P ys → Each1 P (select_all ms xs ys)
+select_all-typed P [] xs ys p q = tt
+select_all-typed P (m ∷ ms) [] ys p q = tt
+select_all-typed P (m ∷ ms) (x ∷ xs) [] p q = tt
+select_all-typed P (m ∷ ms) (x ∷ xs) (y ∷ ys) p q = (go (is_true m), select_all-typed P ms xs ys p.1 q.1)
   where
     go : (b : Bool) → P (select_row b x y)
     go true = p.0
     go false = q.0
 
-few_of : (m n p l : ℕ) → m < 2 ^ 32 → n < 2 ^ 32 → p < 2 ^ 32 → (l ≡ m) ⊎ ((l ≡ n) ⊎ (l ≡ p)) → l < 2 ^ 32
-few_of m n p l a b c (inl e) = subst (λ (x : ℕ). x < 2 ^ 32) (sym e) a
-few_of m n p l a b c (inr (inl e)) = subst (λ (x : ℕ). x < 2 ^ 32) (sym e) b
-few_of m n p l a b c (inr (inr e)) = subst (λ (x : ℕ). x < 2 ^ 32) (sym e) c
+below_limit_of : (m n p l : ℕ) → m < 2 ^ 32 → n < 2 ^ 32 → p < 2 ^ 32 → (l ≡ m) ⊎ ((l ≡ n) ⊎ (l ≡ p)) → l < 2 ^ 32
+below_limit_of m n p l a b c (inl e) = subst (λ (x : ℕ). x < 2 ^ 32) (sym e) a
+below_limit_of m n p l a b c (inr (inl e)) = subst (λ (x : ℕ). x < 2 ^ 32) (sym e) b
+below_limit_of m n p l a b c (inr (inr e)) = subst (λ (x : ℕ). x < 2 ^ 32) (sym e) c
 
 -- f row by row of three columns is a column
 pub three-column :
@@ -164,10 +164,10 @@ three-column i j l k f h a b d v ha hb hd e =
     let y = stretch-long b.rows n to.second in
     let z = stretch-long d.rows n to.third in
     let long : length (zip3 f (stretch n a.rows) (stretch n b.rows) (stretch n d.rows)) ≡ n = zip3-long f (stretch n a.rows) (stretch n b.rows) (stretch n d.rows) (x ∙ sym y) (y ∙ sym z) ∙ x in
-    let few : n < 2 ^ 32 = few_of (length a.rows) (length b.rows) (length d.rows) n ha.column.few hb.column.few hd.column.few to.one_of in
+    let below_limit : n < 2 ^ 32 = below_limit_of (length a.rows) (length b.rows) (length d.rows) n ha.column.below_limit hb.column.below_limit hd.column.below_limit to.one_of in
     subst (IsColumnOf k) same
     (subst (λ (r : List Row). IsColumnOf k (record { value_type = k; rows = r })) made
-    (is_column_of k (zip3 f (stretch n a.rows) (stretch n b.rows) (stretch n d.rows)) (subst (λ (m : ℕ). m < 2 ^ 32) (sym long) few)
+    (is_column_of k (zip3 f (stretch n a.rows) (stretch n b.rows) (stretch n d.rows)) (subst (λ (m : ℕ). m < 2 ^ 32) (sym long) below_limit)
     (zip3-typed k f h (stretch n a.rows) (stretch n b.rows) (stretch n d.rows))))
 
 -- two columns of a type by a mask are a column of it
@@ -180,13 +180,13 @@ select_rows-typed k m a b v hm ha hb e =
     let x = stretch-long m.rows n to.first in
     let y = stretch-long a.rows n to.second in
     let z = stretch-long b.rows n to.third in
-    let long : length (select_all (stretch n m.rows) (stretch n a.rows) (stretch n b.rows)) ≡ n = choose-long (stretch n m.rows) (stretch n a.rows) (stretch n b.rows) (x ∙ sym y) (y ∙ sym z) ∙ x in
-    let few : n < 2 ^ 32 = few_of (length m.rows) (length a.rows) (length b.rows) n hm.column.few ha.column.few hb.column.few to.one_of in
+    let long : length (select_all (stretch n m.rows) (stretch n a.rows) (stretch n b.rows)) ≡ n = select_all-length (stretch n m.rows) (stretch n a.rows) (stretch n b.rows) (x ∙ sym y) (y ∙ sym z) ∙ x in
+    let below_limit : n < 2 ^ 32 = below_limit_of (length m.rows) (length a.rows) (length b.rows) n hm.column.below_limit ha.column.below_limit hb.column.below_limit to.one_of in
     let typed : Each1 (IsRowOf k) (select_all (stretch n m.rows) (stretch n a.rows) (stretch n b.rows)) =
-    choose-typed (IsRowOf k) (stretch n m.rows) (stretch n a.rows) (stretch n b.rows) (stretch-typed (IsRowOf k) tt n a.rows (typed_rows k a ha)) (stretch-typed (IsRowOf k) tt n b.rows (typed_rows k b hb)) in
+    select_all-typed (IsRowOf k) (stretch n m.rows) (stretch n a.rows) (stretch n b.rows) (stretch-typed (IsRowOf k) tt n a.rows (typed_rows k a ha)) (stretch-typed (IsRowOf k) tt n b.rows (typed_rows k b hb)) in
     subst (IsColumnOf k) same
     (subst (λ (j : ValueType). IsColumnOf k (record { value_type = j; rows = select_all (stretch n m.rows) (stretch n a.rows) (stretch n b.rows) })) (sym ha.value_type)
-    (is_column_of k (select_all (stretch n m.rows) (stretch n a.rows) (stretch n b.rows)) (subst (λ (i : ℕ). i < 2 ^ 32) (sym long) few) typed))
+    (is_column_of k (select_all (stretch n m.rows) (stretch n a.rows) (stretch n b.rows)) (subst (λ (i : ℕ). i < 2 ^ 32) (sym long) below_limit) typed))
 
 -- the rows of a cast
 pub cast_list-parts : (options : CastOptions) (f : Datum → Row) (rows out : List Row) → cast_list options f rows ≡ Some out → map (cast_row f) rows ≡ out

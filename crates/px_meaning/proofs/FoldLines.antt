@@ -8,7 +8,7 @@ use Rattle.px_types.specs.Classes.{is_integer_value}
 use Rattle.px_semantics.specs.Comparisons.{compare_row, compare_rows, IsComparison}
 use Rattle.px_types.specs.Integers.{into}
 use Rattle.px_semantics.specs.Logic.{logic_rows, boolean_logic_row}
-use Rattle.px_semantics.specs.Rows.{Datum, Truth, Text, Integer, Row, TypedRows, IsRowOf, lift}
+use Rattle.px_semantics.specs.Rows.{Datum, BooleanValue, StringValue, IntegerValue, Row, TypedRows, IsRowOf, lift}
 use Rattle.px_types.specs.declared.operator.Operator.{Operator}
 use Rattle.px_types.specs.declared.operator.Operator.TheVariants as op
 use Rattle.px_types.specs.declared.value_type.ValueType.{ValueType}
@@ -56,19 +56,19 @@ natural (negsuc a) n h = absurd (omega (arith, ints))
 
 -- the literal of a value of a type has it
 pub folded-scalar : (k : ValueType) (d : Datum) → is_castable k ≡ true → IsRowOf k (Some d) → IsScalarOf (row_literal k (Some d)) k d
-folded-scalar value_type.Boolean (Truth t) i h = refl
-folded-scalar value_type.String (Text t) i h = cc
-folded-scalar value_type.UInt8 (Integer z) i h = ap (λ y. Some (value_type.UInt8, Integer y)) (natural z (2 ^ 8) h)
-folded-scalar value_type.UInt16 (Integer z) i h = ap (λ y. Some (value_type.UInt16, Integer y)) (natural z (2 ^ 16) h)
-folded-scalar value_type.UInt32 (Integer z) i h = ap (λ y. Some (value_type.UInt32, Integer y)) (natural z (2 ^ 32) h)
-folded-scalar value_type.UInt64 (Integer z) i h = ap (λ y. Some (value_type.UInt64, Integer y)) (natural z (2 ^ 64) h)
-folded-scalar value_type.Int8 (Integer z) i h = refl
-folded-scalar value_type.Int16 (Integer z) i h = refl
-folded-scalar value_type.Int32 (Integer z) i h = refl
-folded-scalar value_type.Int64 (Integer z) i h = refl
-folded-scalar _ (Truth t) i h = absurd h
-folded-scalar _ (Text t) i h = absurd h
-folded-scalar _ (Integer z) i h = absurd h
+folded-scalar value_type.Boolean (BooleanValue t) i h = refl
+folded-scalar value_type.String (StringValue t) i h = cc
+folded-scalar value_type.UInt8 (IntegerValue z) i h = ap (λ y. Some (value_type.UInt8, IntegerValue y)) (natural z (2 ^ 8) h)
+folded-scalar value_type.UInt16 (IntegerValue z) i h = ap (λ y. Some (value_type.UInt16, IntegerValue y)) (natural z (2 ^ 16) h)
+folded-scalar value_type.UInt32 (IntegerValue z) i h = ap (λ y. Some (value_type.UInt32, IntegerValue y)) (natural z (2 ^ 32) h)
+folded-scalar value_type.UInt64 (IntegerValue z) i h = ap (λ y. Some (value_type.UInt64, IntegerValue y)) (natural z (2 ^ 64) h)
+folded-scalar value_type.Int8 (IntegerValue z) i h = refl
+folded-scalar value_type.Int16 (IntegerValue z) i h = refl
+folded-scalar value_type.Int32 (IntegerValue z) i h = refl
+folded-scalar value_type.Int64 (IntegerValue z) i h = refl
+folded-scalar _ (BooleanValue t) i h = absurd h
+folded-scalar _ (StringValue t) i h = absurd h
+folded-scalar _ (IntegerValue z) i h = absurd h
 
 scalar-has : (c : Catalog) (v : LiteralValue) (k j : ValueType) (d : Datum) → IsScalarOf v k d → Has c (literal v) j → (k ≡ j) × IsRowOf k (Some d)
 scalar-has c v k j d e h =
@@ -142,11 +142,11 @@ logic-one o r s = refl
 
 -- sums, differences and products
 pub ring-keeps :
-    (c : Catalog) (context : Context) (o : Operator) (v w : LiteralValue) (k : ValueType) (x y : ℤ) → IsRing o → IsScalarOf v k (Integer x) → IsScalarOf w k (Integer y) →
-    LineKeeps c context (binary o (literal v) (literal w)) (folded k (arith_row o k (Some (Integer x)) (Some (Integer y))))
-ring-keeps c context op.Plus v w k x y i sv sw = fold-keeps c context op.Plus v w k k (Integer x) (Integer y) (Integer (into k (x +ℤ y))) sv sw (λ e. e) (integer-typed k) (arith-one op.Plus k (Some (Integer x)) (Some (Integer y)))
-ring-keeps c context op.Minus v w k x y i sv sw = fold-keeps c context op.Minus v w k k (Integer x) (Integer y) (Integer (into k (x -ℤ y))) sv sw (λ e. e) (integer-typed k) (arith-one op.Minus k (Some (Integer x)) (Some (Integer y)))
-ring-keeps c context op.Multiply v w k x y i sv sw = fold-keeps c context op.Multiply v w k k (Integer x) (Integer y) (Integer (into k (x *ℤ y))) sv sw (λ e. e) (integer-typed k) (arith-one op.Multiply k (Some (Integer x)) (Some (Integer y)))
+    (c : Catalog) (context : Context) (o : Operator) (v w : LiteralValue) (k : ValueType) (x y : ℤ) → IsRing o → IsScalarOf v k (IntegerValue x) → IsScalarOf w k (IntegerValue y) →
+    LineKeeps c context (binary o (literal v) (literal w)) (folded k (arith_row o k (Some (IntegerValue x)) (Some (IntegerValue y))))
+ring-keeps c context op.Plus v w k x y i sv sw = fold-keeps c context op.Plus v w k k (IntegerValue x) (IntegerValue y) (IntegerValue (into k (x +ℤ y))) sv sw (λ e. e) (integer-typed k) (arith-one op.Plus k (Some (IntegerValue x)) (Some (IntegerValue y)))
+ring-keeps c context op.Minus v w k x y i sv sw = fold-keeps c context op.Minus v w k k (IntegerValue x) (IntegerValue y) (IntegerValue (into k (x -ℤ y))) sv sw (λ e. e) (integer-typed k) (arith-one op.Minus k (Some (IntegerValue x)) (Some (IntegerValue y)))
+ring-keeps c context op.Multiply v w k x y i sv sw = fold-keeps c context op.Multiply v w k k (IntegerValue x) (IntegerValue y) (IntegerValue (into k (x *ℤ y))) sv sw (λ e. e) (integer-typed k) (arith-one op.Multiply k (Some (IntegerValue x)) (Some (IntegerValue y)))
 ring-keeps c context _ v w k x y i sv sw = absurd i
 
 nonzero : (y : ℤ) → y ≢ pos 0 → is_zero y ≡ false
@@ -154,23 +154,23 @@ nonzero (pos zero) h = absurd (h refl)
 nonzero (pos (suc n)) h = let e : nat_eq (suc n) 0 ≡ false = grind (arith, nat_tests) in e
 nonzero (negsuc n) h = refl
 
-divided : (f : ℤ → ℤ → ℤ) (x y : ℤ) → y ≢ pos 0 → lift_nonzero f (Some (Integer x)) (Some (Integer y)) ≡ Some (Integer (f x y))
-divided f x y h = ap (λ (b : Bool). lift f (Some (Integer x)) (cond b None (Some (Integer y)))) (nonzero y h)
+divided : (f : ℤ → ℤ → ℤ) (x y : ℤ) → y ≢ pos 0 → lift_nonzero f (Some (IntegerValue x)) (Some (IntegerValue y)) ≡ Some (IntegerValue (f x y))
+divided f x y h = ap (λ (b : Bool). lift f (Some (IntegerValue x)) (cond b None (Some (IntegerValue y)))) (nonzero y h)
 
 division-keeps :
-    (c : Catalog) (context : Context) (o : Operator) (v w : LiteralValue) (k : ValueType) (x y z : ℤ) → IsScalarOf v k (Integer x) → IsScalarOf w k (Integer y) →
+    (c : Catalog) (context : Context) (o : Operator) (v w : LiteralValue) (k : ValueType) (x y z : ℤ) → IsScalarOf v k (IntegerValue x) → IsScalarOf w k (IntegerValue y) →
     ((a b : TypedRows) → group_rows (group_of o) o a b ≡ arith_rows o a b) → ((m : ValueType) → group_type (group_of o) k ≡ Some m → (k ≡ m) × (is_castable k ≡ true)) →
-    arith_row o k (Some (Integer x)) (Some (Integer y)) ≡ Some (Integer z) →
-    LineKeeps c context (binary o (literal v) (literal w)) (folded k (arith_row o k (Some (Integer x)) (Some (Integer y))))
+    arith_row o k (Some (IntegerValue x)) (Some (IntegerValue y)) ≡ Some (IntegerValue z) →
+    LineKeeps c context (binary o (literal v) (literal w)) (folded k (arith_row o k (Some (IntegerValue x)) (Some (IntegerValue y))))
 division-keeps c context o v w k x y z sv sw plain typed e =
-    fold-row c context (binary o (literal v) (literal w)) k (arith_row o k (Some (Integer x)) (Some (Integer y))) (Integer z) e
-    (fold-keeps c context o v w k k (Integer x) (Integer y) (Integer z) sv sw (λ e. e) typed
-    (plain (one_row k (Some (Integer x))) (one_row k (Some (Integer y))) ∙ (arith-one o k (Some (Integer x)) (Some (Integer y)) ∙ ap (λ (row : Row). Some (one_row k row)) e)))
+    fold-row c context (binary o (literal v) (literal w)) k (arith_row o k (Some (IntegerValue x)) (Some (IntegerValue y))) (IntegerValue z) e
+    (fold-keeps c context o v w k k (IntegerValue x) (IntegerValue y) (IntegerValue z) sv sw (λ e. e) typed
+    (plain (one_row k (Some (IntegerValue x))) (one_row k (Some (IntegerValue y))) ∙ (arith-one o k (Some (IntegerValue x)) (Some (IntegerValue y)) ∙ ap (λ (row : Row). Some (one_row k row)) e)))
 
 -- quotients and rests, by a divisor other than 0
 pub division-line :
-    (c : Catalog) (context : Context) (o : Operator) (v w : LiteralValue) (k : ValueType) (x y : ℤ) → IsDivision o → IsScalarOf v k (Integer x) → IsScalarOf w k (Integer y) → y ≢ pos 0 →
-    LineKeeps c context (binary o (literal v) (literal w)) (folded k (arith_row o k (Some (Integer x)) (Some (Integer y))))
+    (c : Catalog) (context : Context) (o : Operator) (v w : LiteralValue) (k : ValueType) (x y : ℤ) → IsDivision o → IsScalarOf v k (IntegerValue x) → IsScalarOf w k (IntegerValue y) → y ≢ pos 0 →
+    LineKeeps c context (binary o (literal v) (literal w)) (folded k (arith_row o k (Some (IntegerValue x)) (Some (IntegerValue y))))
 division-line c context op.Divide v w k x y i sv sw h = division-keeps c context op.Divide v w k x y (into k (floor_quotient x y)) sv sw (λ a b. refl) (integer-typed k) (divided (λ a b. into k (floor_quotient a b)) x y h)
 division-line c context op.FloorDivide v w k x y i sv sw h = division-keeps c context op.FloorDivide v w k x y (into k (floor_quotient x y)) sv sw (λ a b. refl) (integer-typed k) (divided (λ a b. into k (floor_quotient a b)) x y h)
 division-line c context op.Modulus v w k x y i sv sw h = division-keeps c context op.Modulus v w k x y (floor_remainder x y) sv sw (λ a b. refl) (integer-typed k) (divided floor_remainder x y h)
@@ -179,7 +179,7 @@ division-line c context _ v w k x y i sv sw h = absurd i
 -- a comparison of two values is a Boolean
 record Compares (o : Operator) (d e : Datum) : Type 0 where
   truth : Bool
-  is : compare_row o (Some d) (Some e) ≡ Some (Truth truth)
+  is : compare_row o (Some d) (Some e) ≡ Some (BooleanValue truth)
   plain : (a b : TypedRows) → group_rows (group_of o) o a b ≡ compare_rows o a b
   gives : (j m : ValueType) → group_type (group_of o) j ≡ Some m → value_type.Boolean ≡ m
 
@@ -203,14 +203,14 @@ pub compare-keeps :
     LineKeeps c context (binary o (literal v) (literal w)) (folded value_type.Boolean (compare_row o (Some d) (Some e)))
 compare-keeps c context o v w k d e i sv sw =
     let p = compares o d e i in
-    fold-row c context (binary o (literal v) (literal w)) value_type.Boolean (compare_row o (Some d) (Some e)) (Truth p.truth) p.is
-    (fold-keeps c context o v w k value_type.Boolean d e (Truth p.truth) sv sw (λ e. refl) (λ m g. (p.gives k m g, refl))
+    fold-row c context (binary o (literal v) (literal w)) value_type.Boolean (compare_row o (Some d) (Some e)) (BooleanValue p.truth) p.is
+    (fold-keeps c context o v w k value_type.Boolean d e (BooleanValue p.truth) sv sw (λ e. refl) (λ m g. (p.gives k m g, refl))
     (p.plain (one_row k (Some d)) (one_row k (Some e)) ∙ (compare-one o k (Some d) (Some e) ∙ ap (λ (row : Row). Some (one_row value_type.Boolean row)) p.is)))
 
 -- a logical operator on two Booleans is a Boolean
 record Decides (o : Operator) (s t : Bool) : Type 0 where
   truth : Bool
-  is : boolean_logic_row o (Some (Truth s)) (Some (Truth t)) ≡ Some (Truth truth)
+  is : boolean_logic_row o (Some (BooleanValue s)) (Some (BooleanValue t)) ≡ Some (BooleanValue truth)
   plain : (a b : TypedRows) → group_rows (group_of o) o a b ≡ logic_rows o a b
   gives : (m : ValueType) → group_type (group_of o) value_type.Boolean ≡ Some m → value_type.Boolean ≡ m
 
@@ -238,20 +238,20 @@ decides op.Xor false false i = record { truth = false; is = refl; plain = λ a b
 decides _ s t i = absurd i
 
 logic-scalars :
-    (c : Catalog) (context : Context) (o : Operator) (v w : LiteralValue) (s t : Bool) → IsLogical o → IsScalarOf v value_type.Boolean (Truth s) → IsScalarOf w value_type.Boolean (Truth t) →
-    LineKeeps c context (binary o (literal v) (literal w)) (folded value_type.Boolean (boolean_logic_row o (Some (Truth s)) (Some (Truth t))))
+    (c : Catalog) (context : Context) (o : Operator) (v w : LiteralValue) (s t : Bool) → IsLogical o → IsScalarOf v value_type.Boolean (BooleanValue s) → IsScalarOf w value_type.Boolean (BooleanValue t) →
+    LineKeeps c context (binary o (literal v) (literal w)) (folded value_type.Boolean (boolean_logic_row o (Some (BooleanValue s)) (Some (BooleanValue t))))
 logic-scalars c context o v w s t i sv sw =
     let p = decides o s t i in
-    fold-row c context (binary o (literal v) (literal w)) value_type.Boolean (boolean_logic_row o (Some (Truth s)) (Some (Truth t))) (Truth p.truth) p.is
-    (fold-keeps c context o v w value_type.Boolean value_type.Boolean (Truth s) (Truth t) (Truth p.truth) sv sw (λ e. refl) (λ m g. (p.gives m g, refl))
-    (p.plain (one_row value_type.Boolean (Some (Truth s))) (one_row value_type.Boolean (Some (Truth t))) ∙ (logic-one o (Some (Truth s)) (Some (Truth t)) ∙ ap (λ (row : Row). Some (one_row value_type.Boolean row)) p.is)))
+    fold-row c context (binary o (literal v) (literal w)) value_type.Boolean (boolean_logic_row o (Some (BooleanValue s)) (Some (BooleanValue t))) (BooleanValue p.truth) p.is
+    (fold-keeps c context o v w value_type.Boolean value_type.Boolean (BooleanValue s) (BooleanValue t) (BooleanValue p.truth) sv sw (λ e. refl) (λ m g. (p.gives m g, refl))
+    (p.plain (one_row value_type.Boolean (Some (BooleanValue s))) (one_row value_type.Boolean (Some (BooleanValue t))) ∙ (logic-one o (Some (BooleanValue s)) (Some (BooleanValue t)) ∙ ap (λ (row : Row). Some (one_row value_type.Boolean row)) p.is)))
 
 -- logical operators
-pub logic-keeps : (c : Catalog) (context : Context) (o : Operator) (s t : Bool) → IsLogical o → LineKeeps c context (binary o (truth s) (truth t)) (folded value_type.Boolean (boolean_logic_row o (Some (Truth s)) (Some (Truth t))))
+pub logic-keeps : (c : Catalog) (context : Context) (o : Operator) (s t : Bool) → IsLogical o → LineKeeps c context (binary o (truth s) (truth t)) (folded value_type.Boolean (boolean_logic_row o (Some (BooleanValue s)) (Some (BooleanValue t))))
 logic-keeps c context o s t i = logic-scalars c context o (lit.Boolean s) (lit.Boolean t) s t i refl refl
 
 -- a scalar literal of the type Boolean is one of a Boolean
-boolean-scalar : (v : LiteralValue) → is_scalar v ≡ true → literal_type (literal_rows v) ≡ Some value_type.Boolean → (t : Bool) × IsScalarOf v value_type.Boolean (Truth t)
+boolean-scalar : (v : LiteralValue) → is_scalar v ≡ true → literal_type (literal_rows v) ≡ Some value_type.Boolean → (t : Bool) × IsScalarOf v value_type.Boolean (BooleanValue t)
 boolean-scalar (lit.Boolean t) i e = (t, refl)
 boolean-scalar (lit.Series c) i e = cc
 boolean-scalar (lit.Range low high dtype) i e = cc
@@ -268,7 +268,7 @@ boolean-scalar _ i e = cc
 
 -- an operator and a Boolean that decides it
 module _ (c : Catalog) (context : Context) (o : Operator) (e : Bool) (v : LiteralValue) (scalar : is_scalar v ≡ true) (logical : IsLogical o) where
-  right-decides : ((t : Bool) → boolean_logic_row o (Some (Truth t)) (Some (Truth e)) ≡ Some (Truth e)) → ((j : ValueType) → Has c (truth e) j → value_type.Boolean ≡ j) → LineKeeps c context (binary o (literal v) (truth e)) (truth e)
+  right-decides : ((t : Bool) → boolean_logic_row o (Some (BooleanValue t)) (Some (BooleanValue e)) ≡ Some (BooleanValue e)) → ((j : ValueType) → Has c (truth e) j → value_type.Boolean ≡ j) → LineKeeps c context (binary o (literal v) (truth e)) (truth e)
   right-decides same boolean =
       record {
         value_type = λ k h. (whole k h).value_type k h;
@@ -285,7 +285,7 @@ module _ (c : Catalog) (context : Context) (o : Operator) (e : Bool) (v : Litera
           let (t, s) = boolean-scalar v scalar (subst (λ (j : ValueType). literal_type (literal_rows v) ≡ Some j) (sym b) (literal-has c v p.value_type p.left)) in
           subst (λ (row : Row). LineKeeps c context (binary o (literal v) (truth e)) (folded value_type.Boolean row)) (same t) (logic-scalars c context o v (lit.Boolean e) t e logical s refl)
 
-  left-decides : ((t : Bool) → boolean_logic_row o (Some (Truth e)) (Some (Truth t)) ≡ Some (Truth e)) → ((j : ValueType) → Has c (truth e) j → value_type.Boolean ≡ j) → LineKeeps c context (binary o (truth e) (literal v)) (truth e)
+  left-decides : ((t : Bool) → boolean_logic_row o (Some (BooleanValue e)) (Some (BooleanValue t)) ≡ Some (BooleanValue e)) → ((j : ValueType) → Has c (truth e) j → value_type.Boolean ≡ j) → LineKeeps c context (binary o (truth e) (literal v)) (truth e)
   left-decides same boolean =
       record {
         value_type = λ k h. (whole k h).value_type k h;
@@ -305,19 +305,19 @@ module _ (c : Catalog) (context : Context) (o : Operator) (e : Bool) (v : Litera
 truth-type : (c : Catalog) (e : Bool) (j : ValueType) → Has c (truth e) j → value_type.Boolean ≡ j
 truth-type c e j h = (given-parts _ value_type.Boolean j (literal-has c (lit.Boolean e) j h)).1
 
-and_false : (t : Bool) → boolean_logic_row op.And (Some (Truth t)) (Some (Truth false)) ≡ Some (Truth false)
+and_false : (t : Bool) → boolean_logic_row op.And (Some (BooleanValue t)) (Some (BooleanValue false)) ≡ Some (BooleanValue false)
 and_false true = refl
 and_false false = refl
 
-false_and : (t : Bool) → boolean_logic_row op.And (Some (Truth false)) (Some (Truth t)) ≡ Some (Truth false)
+false_and : (t : Bool) → boolean_logic_row op.And (Some (BooleanValue false)) (Some (BooleanValue t)) ≡ Some (BooleanValue false)
 false_and true = refl
 false_and false = refl
 
-or_true : (t : Bool) → boolean_logic_row op.Or (Some (Truth t)) (Some (Truth true)) ≡ Some (Truth true)
+or_true : (t : Bool) → boolean_logic_row op.Or (Some (BooleanValue t)) (Some (BooleanValue true)) ≡ Some (BooleanValue true)
 or_true true = refl
 or_true false = refl
 
-true_or : (t : Bool) → boolean_logic_row op.Or (Some (Truth true)) (Some (Truth t)) ≡ Some (Truth true)
+true_or : (t : Bool) → boolean_logic_row op.Or (Some (BooleanValue true)) (Some (BooleanValue t)) ≡ Some (BooleanValue true)
 true_or true = refl
 true_or false = refl
 
@@ -341,21 +341,21 @@ signed-integer value_type.Int64 i = refl
 signed-integer _ i = absurd i
 
 -- the negation of a literal
-pub negate-keeps : (c : Catalog) (context : Context) (v : LiteralValue) (k : ValueType) (z : ℤ) → IsSigned k → IsScalarOf v k (Integer z) → LineKeeps c context (call function.Negate (literal v)) (folded k (Some (Integer (into k (neg_ℤ z)))))
+pub negate-keeps : (c : Catalog) (context : Context) (v : LiteralValue) (k : ValueType) (z : ℤ) → IsSigned k → IsScalarOf v k (IntegerValue z) → LineKeeps c context (call function.Negate (literal v)) (folded k (Some (IntegerValue (into k (neg_ℤ z)))))
 negate-keeps c context v k z i sv =
     record {
-      value_type = λ m h. subst (Has c (folded k (Some (Integer (into k (neg_ℤ z)))))) (types m h).0 (has-scalar c (row_literal k (Some (Integer (into k (neg_ℤ z))))) k (Integer (into k (neg_ℤ z))) (scalar m h) (row m h));
-      rows = λ m h frame fits. ap (λ (a : Option TypedRows). option_and_then (of_one (λ x. Some (negate_rows x))) (all_of (a ∷ []))) (scalar-rows v k (Integer z) sv) ∙ sym (scalar-rows (row_literal k (Some (Integer (into k (neg_ℤ z))))) k (Integer (into k (neg_ℤ z))) (scalar m h));
-      name = λ m h select. scalar-name v k (Integer z) sv ∙ sym (scalar-name (row_literal k (Some (Integer (into k (neg_ℤ z))))) k (Integer (into k (neg_ℤ z))) (scalar m h));
-      faults = λ m h frame fits f g. absurd (literal-fault c.kernels frame (row_literal k (Some (Integer (into k (neg_ℤ z))))) f g);
+      value_type = λ m h. subst (Has c (folded k (Some (IntegerValue (into k (neg_ℤ z)))))) (types m h).0 (has-scalar c (row_literal k (Some (IntegerValue (into k (neg_ℤ z))))) k (IntegerValue (into k (neg_ℤ z))) (scalar m h) (row m h));
+      rows = λ m h frame fits. ap (λ (a : Option TypedRows). option_and_then (of_one (λ x. Some (negate_rows x))) (all_of (a ∷ []))) (scalar-rows v k (IntegerValue z) sv) ∙ sym (scalar-rows (row_literal k (Some (IntegerValue (into k (neg_ℤ z))))) k (IntegerValue (into k (neg_ℤ z))) (scalar m h));
+      name = λ m h select. scalar-name v k (IntegerValue z) sv ∙ sym (scalar-name (row_literal k (Some (IntegerValue (into k (neg_ℤ z))))) k (IntegerValue (into k (neg_ℤ z))) (scalar m h));
+      faults = λ m h frame fits f g. absurd (literal-fault c.kernels frame (row_literal k (Some (IntegerValue (into k (neg_ℤ z))))) f g);
       lighter = omega (arith, weight-negate (literal v));
     }
   where
-    types : (m : ValueType) → Has c (call function.Negate (literal v)) m → (k ≡ m) × IsRowOf k (Some (Integer z))
-    types m h = scalar-has c v k m (Integer z) sv (negate-has c (literal v) m h)
+    types : (m : ValueType) → Has c (call function.Negate (literal v)) m → (k ≡ m) × IsRowOf k (Some (IntegerValue z))
+    types m h = scalar-has c v k m (IntegerValue z) sv (negate-has c (literal v) m h)
 
-    row : (m : ValueType) → Has c (call function.Negate (literal v)) m → IsRowOf k (Some (Integer (into k (neg_ℤ z))))
-    row m h = negate_row-typed k (signed-integer k i) (Some (Integer z)) (types m h).1
+    row : (m : ValueType) → Has c (call function.Negate (literal v)) m → IsRowOf k (Some (IntegerValue (into k (neg_ℤ z))))
+    row m h = negate_row-typed k (signed-integer k i) (Some (IntegerValue z)) (types m h).1
 
-    scalar : (m : ValueType) → Has c (call function.Negate (literal v)) m → IsScalarOf (row_literal k (Some (Integer (into k (neg_ℤ z))))) k (Integer (into k (neg_ℤ z)))
-    scalar m h = folded-scalar k (Integer (into k (neg_ℤ z))) (integer-castable k (signed-integer k i)) (row m h)
+    scalar : (m : ValueType) → Has c (call function.Negate (literal v)) m → IsScalarOf (row_literal k (Some (IntegerValue (into k (neg_ℤ z))))) k (IntegerValue (into k (neg_ℤ z)))
+    scalar m h = folded-scalar k (IntegerValue (into k (neg_ℤ z))) (integer-castable k (signed-integer k i)) (row m h)

@@ -8,7 +8,7 @@ use Rattle.px_semantics.specs.Arithmetic.{arith_row, arith_rows}
 use Rattle.px_semantics.specs.Selections.{broadcast_length_three}
 use Rattle.px_types.specs.Classes.{is_integer_value}
 use Rattle.px_semantics.specs.Fused.{fused_rows, fused_row, zip3}
-use Rattle.px_semantics.specs.Rows.{Row, TypedRows, Contents, broadcast_length, stretch}
+use Rattle.px_semantics.specs.Rows.{Row, TypedRows, Contents, broadcast_length, stretch, broadcast_lengths}
 use Rattle.px_types.specs.declared.function.FusedOperator.{FusedOperator}
 use Rattle.px_types.specs.declared.function.FusedOperator.TheVariants.{MultiplyAdd, SubMultiply, MultiplySub}
 use Rattle.px_types.specs.declared.operator.Operator.{Operator}
@@ -19,7 +19,7 @@ use Rattle.px_semantics.specs.FusedLaws.{HaveOneType}
 use Rattle.px_expr.specs.declared.context.Context.{Context}
 use Rattle.px_expr.specs.Tree.{Alias, Tree, over}
 use Rattle.px_meaning.specs.Faults.{HasFault, own, uneven, of_input, of_first, of_rest, lengths, HasUnevenInputs}
-use Rattle.px_meaning.specs.Mean.{binary_rows, group_rows, of_one, of_three, all_of, rows, broadcast_length_all}
+use Rattle.px_meaning.specs.Mean.{binary_rows, group_rows, of_one, of_three, all_of, rows}
 use Rattle.px_meaning.specs.Names.{name}
 use Rattle.px_meaning.specs.Rewrites.{binary, fused_tree}
 use Rattle.px_meaning.specs.Schema.{Fits}
@@ -73,7 +73,7 @@ uneven-three (Some a) None n (cols, e, f) = cc
 uneven-three (Some a) (Some b) None (cols, e, f) = cc
 uneven-three (Some a) (Some b) (Some d) (cols, e, f) =
     let same : a ∷ b ∷ d ∷ [] ≡ cols = cc in
-    (a, b, d, refl, refl, refl, ap (λ (z : List TypedRows). broadcast_length_all (lengths z)) same ∙ f)
+    (a, b, d, refl, refl, refl, ap (λ (z : List TypedRows). broadcast_lengths (lengths z)) same ∙ f)
 
 -- an operator of arithmetic over inputs that mean columns, where it means nothing
 binary-uneven : (o : Operator) → IsArithmetic o → (m n : Option TypedRows) (a b : TypedRows) → m ≡ Some a → n ≡ Some b → option_and_then (binary_rows o) (all_of (m ∷ n ∷ [])) ≡ None → HasUnevenInputs (m ∷ n ∷ [])

@@ -8,8 +8,8 @@ use Rattle.px_types.proofs.CommonTypes.{value_type_of-dtype_of, common-null, com
 use Rattle.std.proofs.lemmas.List.{length-map}
 use Rattle.px_types.specs.Classes.{is_boolean_or_integer, is_integer_value, is_unsigned_value}
 use Rattle.px_types.specs.Integers.{InRange}
-use Rattle.px_semantics.specs.Rows.{Integer}
-use Rattle.px_types.specs.ValueTypes.{holds, default_type, common, common_dtype, common_family, family_of, type_of_family, value_type_of, dtype_of, Family, Nulls, BooleanArray, StringArray, Unsigned, Signed}
+use Rattle.px_semantics.specs.Rows.{IntegerValue}
+use Rattle.px_types.specs.ValueTypes.{holds, default_type, common, common_dtype, common_family, family_of, type_of_family, value_type_of, dtype_of, Family, Nulls, Booleans, Strings, Unsigned, Signed}
 use Rattle.px_types.specs.declared.dtype.DataType.{out-DataType}
 use Rattle.px_types.specs.declared.dtype.DataType.TheVariants as dtype
 use Rattle.px_types.specs.declared.type_parts.CastOptions.TheVariants.{NonStrict}
@@ -21,11 +21,12 @@ use Rattle.px_types.specs.declared.value_type.ValueType.TheVariants as value_typ
 use Rattle.px_expr.specs.declared.literal.LiteralValue.{LiteralValue}
 use Rattle.px_expr.specs.declared.literal.LiteralValue.TheVariants as lit
 use Rattle.px_expr.specs.Tree.{Node, Alias, Column, Literal, Binary, Cast, Ternary, Function, Tree, tree, Trees, none, more, trees, fold_trees}
-use Rattle.px_semantics.specs.Columns.{is_boolean, is_column}
+use Rattle.px_semantics.specs.Columns.{is_column}
+use Rattle.px_semantics.specs.Rows.{is_boolean}
 use Rattle.px_meaning.specs.Check.{Typed, Found, Checked, Untyped, then_, all_results, or_fault, operand_of, literal, cast_tree, default_literal, coerced, coerced_all, resolve, made, deferred, with_default_type_or, find, found, with_default_type, check, HasType}
 use Rattle.px_meaning.specs.Literals.{literal_of, literal_rows}
 use Rattle.px_expr.specs.Plan.{Catalog}
-use Rattle.px_meaning.specs.Signatures.{Operand, Known, Free, Signature, signature, leaf, own_type, unary, uniting, united, of_united, any_type, cast_type, truth_type, number_type, signed_type, integer_type, group_type, group_of, Group, Arithmetic, Comparison, Bitwise, Logical, Fractional, function_signature, ternary_signature, literal_type, masked, is_mask, is_type, is_castable, given, common_of, common_all, known_types, wanted_types, widened}
+use Rattle.px_meaning.specs.Signatures.{Operand, OfType, UntypedInteger, Signature, signature, leaf, own_type, unary, uniting, united, of_united, any_type, cast_type, boolean_result, number_type, signed_type, integer_type, group_type, group_of, Group, Arithmetic, Comparison, Bitwise, Logical, Fractional, function_signature, ternary_signature, literal_type, masked, is_mask, is_type, is_castable, given, common_of, common_all, own_types, wanted_types, widened}
 use Rattle.px_meaning.proofs.Answers.{from_option, then_-parts, given-parts}
 use Rattle.px_meaning.proofs.FoldLines.{has-scalar, folded-scalar}
 use Rattle.px_meaning.proofs.Shapes.{and_then-parts, map-parts, unary-parts, uniting-parts, ternary-parts, leaf-parts}
@@ -75,7 +76,7 @@ default-core z d e = go d (default-holds z d e)
 
 -- the common type of core types is one
 abbrev family-core : Family → Type 0
-family-core StringArray = ⊥
+family-core Strings = ⊥
 family-core _ = Unit {0}
 
 of_family-core : (k : ValueType) → IsCore k → family-core (family_of k)
@@ -84,17 +85,17 @@ of_family-core _ e = tt
 
 common-family-core : (a b f : Family) → family-core a → family-core b → common_family a b ≡ Some f → family-core f
 common-family-core Nulls b f p q e = let same : b ≡ f = cc in subst family-core same q
-common-family-core BooleanArray Nulls f p q e = let same : BooleanArray ≡ f = cc in subst family-core same tt
-common-family-core BooleanArray BooleanArray f p q e = let same : BooleanArray ≡ f = cc in subst family-core same tt
-common-family-core BooleanArray (Unsigned n) f p q e = let same : Unsigned n ≡ f = cc in subst family-core same tt
-common-family-core BooleanArray (Signed n) f p q e = let same : Signed n ≡ f = cc in subst family-core same tt
-common-family-core BooleanArray StringArray f p q e = absurd q
-common-family-core StringArray b f p q e = absurd p
-common-family-core a StringArray f p q e = absurd q
+common-family-core Booleans Nulls f p q e = let same : Booleans ≡ f = cc in subst family-core same tt
+common-family-core Booleans Booleans f p q e = let same : Booleans ≡ f = cc in subst family-core same tt
+common-family-core Booleans (Unsigned n) f p q e = let same : Unsigned n ≡ f = cc in subst family-core same tt
+common-family-core Booleans (Signed n) f p q e = let same : Signed n ≡ f = cc in subst family-core same tt
+common-family-core Booleans Strings f p q e = absurd q
+common-family-core Strings b f p q e = absurd p
+common-family-core a Strings f p q e = absurd q
 common-family-core (Unsigned m) Nulls f p q e = let same : Unsigned m ≡ f = cc in subst family-core same tt
-common-family-core (Unsigned m) BooleanArray f p q e = let same : Unsigned m ≡ f = cc in subst family-core same tt
+common-family-core (Unsigned m) Booleans f p q e = let same : Unsigned m ≡ f = cc in subst family-core same tt
 common-family-core (Signed m) Nulls f p q e = let same : Signed m ≡ f = cc in subst family-core same tt
-common-family-core (Signed m) BooleanArray f p q e = let same : Signed m ≡ f = cc in subst family-core same tt
+common-family-core (Signed m) Booleans f p q e = let same : Signed m ≡ f = cc in subst family-core same tt
 common-family-core (Unsigned m) (Unsigned n) f p q e = let same : Unsigned (max m n) ≡ f = cc in subst family-core same tt
 common-family-core (Unsigned m) (Signed n) f p q e = let same : Signed (max (2 * m) n) ≡ f = cc in subst family-core same tt
 common-family-core (Signed m) (Unsigned n) f p q e = let same : Signed (max m (2 * n)) ≡ f = cc in subst family-core same tt
@@ -119,8 +120,8 @@ signed-core false false false false k e = cc
 
 typed-core : (f : Family) (k : ValueType) → family-core f → value_type_of (type_of_family f) ≡ Some k → IsCore k
 typed-core Nulls k c e = named-core value_type.Null k refl e
-typed-core BooleanArray k c e = named-core value_type.Boolean k refl e
-typed-core StringArray k c e = absurd c
+typed-core Booleans k c e = named-core value_type.Boolean k refl e
+typed-core Strings k c e = absurd c
 typed-core (Unsigned n) k c e = unsigned-core (n == 8) (n == 16) (n == 32) k e
 typed-core (Signed n) k c e = signed-core (n == 8) (n == 16) (n == 32) (n == 64) k e
 
@@ -155,22 +156,22 @@ common_all-core a (b ∷ bs) p q = common_all-core (common_of a b) bs (common_of
 
 -- an operand of the core language
 abbrev IsCoreOperand : Operand → Type 0
-IsCoreOperand (Known k) = IsCore k
-IsCoreOperand (Free z) = Unit {0}
+IsCoreOperand (OfType k) = IsCore k
+IsCoreOperand (UntypedInteger z) = Unit {0}
 
 abbrev AreCoreOperands : List Operand → Type 0
 AreCoreOperands [] = Unit {0}
 AreCoreOperands (o ∷ os) = IsCoreOperand o × AreCoreOperands os
 
-known-core : (os : List Operand) → AreCoreOperands os → AreCoreOr (known_types os)
+known-core : (os : List Operand) → AreCoreOperands os → AreCoreOr (own_types os)
 known-core [] h = tt
-known-core (Known k ∷ os) h = (h.0, known-core os h.1)
-known-core (Free z ∷ os) h = known-core os h.1
+known-core (OfType k ∷ os) h = (h.0, known-core os h.1)
+known-core (UntypedInteger z ∷ os) h = known-core os h.1
 
 wanted-core : (base : ValueType) (os : List Operand) → AreCoreOr (wanted_types base os)
 wanted-core base [] = tt
-wanted-core base (Known k ∷ os) = wanted-core base os
-wanted-core base (Free z ∷ os) = go (holds base z) (wanted-core base os)
+wanted-core base (OfType k ∷ os) = wanted-core base os
+wanted-core base (UntypedInteger z ∷ os) = go (holds base z) (wanted-core base os)
   where
     default : (o : Option ValueType) → default_type z ≡ o → IsCoreOr o
     default (Some d) e = default-core z d e
@@ -192,13 +193,13 @@ none-known None bs k e = let f : None ≡ Some k = sym (common_all-none bs) ∙ 
 -- each integer literal has a default type
 abbrev HaveDefaults : List Operand → Type 0
 HaveDefaults [] = Unit {0}
-HaveDefaults (Known k ∷ os) = HaveDefaults os
-HaveDefaults (Free z ∷ os) = ((d : ValueType) × (default_type z ≡ Some d)) × HaveDefaults os
+HaveDefaults (OfType k ∷ os) = HaveDefaults os
+HaveDefaults (UntypedInteger z ∷ os) = ((d : ValueType) × (default_type z ≡ Some d)) × HaveDefaults os
 
 wanted-defaults : (base : ValueType) (a : Option ValueType) (os : List Operand) (k : ValueType) → common_all a (wanted_types base os) ≡ Some k → HaveDefaults os
 wanted-defaults base a [] k e = tt
-wanted-defaults base a (Known j ∷ os) k e = wanted-defaults base a os k e
-wanted-defaults base a (Free z ∷ os) k e = go (holds base z) refl (λ b f. wanted-defaults base b os k f) e
+wanted-defaults base a (OfType j ∷ os) k e = wanted-defaults base a os k e
+wanted-defaults base a (UntypedInteger z ∷ os) k e = go (holds base z) refl (λ b f. wanted-defaults base b os k f) e
   where
     default : (o : Option ValueType) → default_type z ≡ o → common_all (common_of a o) (wanted_types base os) ≡ Some k → (d : ValueType) × (default_type z ≡ Some d)
     default (Some d) f g = (d, f)
@@ -213,7 +214,7 @@ wanted-defaults base a (Free z ∷ os) k e = go (holds base z) refl (λ b f. wan
 -- the type to which core operands unite is core, and each integer literal among them has a default type
 united-core : (os : List Operand) (k : ValueType) → AreCoreOperands os → united os ≡ Some k → IsCore k × HaveDefaults os
 unfolding united
-united-core os k h e = go (common_all (Some value_type.Null) (known_types os)) (common_all-core (Some value_type.Null) (known_types os) refl (known-core os h)) e
+united-core os k h e = go (common_all (Some value_type.Null) (own_types os)) (common_all-core (Some value_type.Null) (own_types os) refl (known-core os h)) e
   where
     core : (o : Option ValueType) → IsCoreOr o → o ≡ Some k → IsCore k
     core (Some j) p f = let same : j ≡ k = cc in subst IsCore same p
@@ -225,8 +226,8 @@ united-core os k h e = go (common_all (Some value_type.Null) (known_types os)) (
 
 -- an operand can be made this type
 abbrev IsCoercible : Operand → ValueType → Type 0
-IsCoercible (Known j) k = (j ≡ k) ⊎ (IsCore j × IsCore k)
-IsCoercible (Free z) k = ((d : ValueType) × (default_type z ≡ Some d)) × IsCore k
+IsCoercible (OfType j) k = (j ≡ k) ⊎ (IsCore j × IsCore k)
+IsCoercible (UntypedInteger z) k = ((d : ValueType) × (default_type z ≡ Some d)) × IsCore k
 
 abbrev AreCoercible : List Operand → List ValueType → Type 0
 AreCoercible [] [] = Unit {0}
@@ -236,12 +237,12 @@ AreCoercible (o ∷ os) [] = ⊥
 
 united-coercible : (k : ValueType) → IsCore k → (os : List Operand) → AreCoreOperands os → HaveDefaults os → AreCoercible os (map (λ _. k) os)
 united-coercible k c [] h d = tt
-united-coercible k c (Known j ∷ os) h d = (inr (h.0, c), united-coercible k c os h.1 d)
-united-coercible k c (Free z ∷ os) h d = ((d.0, c), united-coercible k c os h.1 d.1)
+united-coercible k c (OfType j ∷ os) h d = (inr (h.0, c), united-coercible k c os h.1 d)
+united-coercible k c (UntypedInteger z ∷ os) h d = ((d.0, c), united-coercible k c os h.1 d.1)
 
 own-coercible : (o : Operand) (k : ValueType) → IsCoreOperand o → own_type o ≡ Some k → IsCoercible o k × IsCore k
-own-coercible (Known j) k h e = let same : j ≡ k = cc in (inl same, subst IsCore same h)
-own-coercible (Free z) k h e = (((k, e), default-core z k e), default-core z k e)
+own-coercible (OfType j) k h e = let same : j ≡ k = cc in (inl same, subst IsCore same h)
+own-coercible (UntypedInteger z) k h e = (((k, e), default-core z k e), default-core z k e)
 
 abbrev signed : List ValueType → ValueType → Signature
 signed ks k = record { inputs = ks; result = k }
@@ -252,7 +253,7 @@ whole s ks e = ap (λ (z : List ValueType). signed z s.result) (sym e)
 -- what a signature makes of core operands: they can be made what it wants, it takes that as it is, and its type is core
 record Settles (rule : List Operand → Option Signature) (os : List Operand) (s : Signature) : Type 0 where
   coercible : AreCoercible os s.inputs
-  again : rule (map Known s.inputs) ≡ Some s
+  again : rule (map OfType s.inputs) ≡ Some s
   core : IsCore s.result
 
 leaf-settles : (k : ValueType) (os : List Operand) (s : Signature) → IsCore k → leaf k os ≡ Some s → Settles (leaf k) os s
@@ -266,27 +267,27 @@ module _ (result : ValueType → Option ValueType) (core : (j k : ValueType) →
   unary-settles os s h e =
       let p = unary-parts result os s e in
       let (coerce, c) = own-coercible p.operand p.value_type (subst AreCoreOperands p.one h).0 p.own in
-      let again : unary result (Known p.value_type ∷ []) ≡ Some (signed (p.value_type ∷ []) s.result) = ap (option_map (λ r. signed (p.value_type ∷ []) r)) p.gives in
+      let again : unary result (OfType p.value_type ∷ []) ≡ Some (signed (p.value_type ∷ []) s.result) = ap (option_map (λ r. signed (p.value_type ∷ []) r)) p.gives in
       let made : Settles (unary result) (p.operand ∷ []) (signed (p.value_type ∷ []) s.result) = record { coercible = (coerce, tt); again = again; core = core p.value_type s.result c p.gives } in
       subst (λ (z : Signature). Settles (unary result) os z) (whole s (p.value_type ∷ []) p.takes)
       (subst (λ (z : List Operand). Settles (unary result) z (signed (p.value_type ∷ []) s.result)) (sym p.one) made)
 
-  same-known : (k : ValueType) (os : List Operand) → common_all (Some k) (known_types (map Known (map (λ _. k) os))) ≡ Some k
+  same-known : (k : ValueType) (os : List Operand) → common_all (Some k) (own_types (map OfType (map (λ _. k) os))) ≡ Some k
   same-known k [] = refl
-  same-known k (o ∷ os) = ap (λ (a : Option ValueType). common_all a (known_types (map Known (map (λ _. k) os)))) (common-same k) ∙ same-known k os
+  same-known k (o ∷ os) = ap (λ (a : Option ValueType). common_all a (own_types (map OfType (map (λ _. k) os)))) (common-same k) ∙ same-known k os
 
-  none-wanted : (base : ValueType) (ks : List ValueType) → wanted_types base (map Known ks) ≡ []
+  none-wanted : (base : ValueType) (ks : List ValueType) → wanted_types base (map OfType ks) ≡ []
   none-wanted base [] = refl
   none-wanted base (k ∷ ks) = none-wanted base ks
 
-  united-many : (k : ValueType) (o : Operand) (os : List Operand) → united (map Known (map (λ _. k) (o ∷ os))) ≡ Some k
+  united-many : (k : ValueType) (o : Operand) (os : List Operand) → united (map OfType (map (λ _. k) (o ∷ os))) ≡ Some k
   unfolding united
   united-many k o os =
-      let all : List Operand = map Known (map (λ _. k) (o ∷ os)) in
-      ap (λ (a : Option ValueType). widened all (common_all a (known_types (map Known (map (λ _. k) os))))) (common-null k)
+      let all : List Operand = map OfType (map (λ _. k) (o ∷ os)) in
+      ap (λ (a : Option ValueType). widened all (common_all a (own_types (map OfType (map (λ _. k) os))))) (common-null k)
       ∙ (ap (widened all) (same-known k os) ∙ ap (common_all (Some k)) (none-wanted k (map (λ _. k) (o ∷ os))))
 
-  same-many : (k : ValueType) (os : List Operand) → map (λ _. k) (map Known (map (λ _. k) os)) ≡ map (λ _. k) os
+  same-many : (k : ValueType) (os : List Operand) → map (λ _. k) (map OfType (map (λ _. k) os)) ≡ map (λ _. k) os
   same-many k [] = refl
   same-many k (o ∷ os) = ap (λ (z : List ValueType). k ∷ z) (same-many k os)
 
@@ -295,16 +296,16 @@ module _ (result : ValueType → Option ValueType) (core : (j k : ValueType) →
       let p = uniting-parts count result os s e in
       let (c, defaults) = united-core os p.value_type h p.unites in
       let ks : List ValueType = map (λ _. p.value_type) os in
-      let many : (length (map Known ks) == count) ≡ true = ap (λ (n : ℕ). n == count) (length-map ks Known ∙ length-map os (λ _. p.value_type)) ∙ p.many in
-      let unites : united (map Known ks) ≡ Some p.value_type = nonempty os p.many in
-      let again : uniting count result (map Known ks) ≡ Some (signed ks s.result) =
-      ap (λ (b : Bool). cond b (option_and_then (of_united result (map Known ks)) (united (map Known ks))) None) many
-      ∙ (ap (option_and_then (of_united result (map Known ks))) unites
-      ∙ (ap (option_map (λ r. signed (map (λ _. p.value_type) (map Known ks)) r)) p.gives ∙ ap (λ (z : List ValueType). Some (signed z s.result)) (same-many p.value_type os))) in
+      let many : (length (map OfType ks) == count) ≡ true = ap (λ (n : ℕ). n == count) (length-map ks OfType ∙ length-map os (λ _. p.value_type)) ∙ p.many in
+      let unites : united (map OfType ks) ≡ Some p.value_type = nonempty os p.many in
+      let again : uniting count result (map OfType ks) ≡ Some (signed ks s.result) =
+      ap (λ (b : Bool). cond b (option_and_then (of_united result (map OfType ks)) (united (map OfType ks))) None) many
+      ∙ (ap (option_and_then (of_united result (map OfType ks))) unites
+      ∙ (ap (option_map (λ r. signed (map (λ _. p.value_type) (map OfType ks)) r)) p.gives ∙ ap (λ (z : List ValueType). Some (signed z s.result)) (same-many p.value_type os))) in
       let made : Settles (uniting count result) os (signed ks s.result) = record { coercible = united-coercible p.value_type c os h defaults; again = again; core = core p.value_type s.result c p.gives } in
       subst (λ (z : Signature). Settles (uniting count result) os z) (whole s ks p.takes) made
     where
-      nonempty : {k : ValueType} (os : List Operand) → (length os == count) ≡ true → united (map Known (map (λ _. k) os)) ≡ Some k
+      nonempty : {k : ValueType} (os : List Operand) → (length os == count) ≡ true → united (map OfType (map (λ _. k) os)) ≡ Some k
       nonempty [] m = let no : true ≡ false = sym m ∙ some in cc
       nonempty {k} (o ∷ os) m = united-many k o os
 
@@ -314,7 +315,7 @@ any-core j k c e = let same : j ≡ k = cc in subst IsCore same c
 given-core : (b : Bool) (j k : ValueType) → IsCore j → given b j ≡ Some k → IsCore k
 given-core b j k c e = subst IsCore (given-parts b j k e).1 c
 
-truth-core : (j k : ValueType) → IsCore j → truth_type j ≡ Some k → IsCore k
+truth-core : (j k : ValueType) → IsCore j → boolean_result j ≡ Some k → IsCore k
 truth-core j k c e = let same : value_type.Boolean ≡ k = cc in subst IsCore same refl
 
 group-core : (g : Group) (j k : ValueType) → IsCore j → group_type g j ≡ Some k → IsCore k
@@ -362,7 +363,7 @@ literal-settles : (v : LiteralValue) (os : List Operand) (s : Signature) → opt
 literal-settles v os s e =
     let (k, f, g) = and_then-parts (literal_type (literal_rows v)) (λ k. leaf k os) s e in
     let p = leaf-settles k os s (literal-core v k f) g in
-    record { coercible = p.coercible; again = ap (option_and_then (λ k. leaf k (map Known s.inputs))) f ∙ p.again; core = p.core }
+    record { coercible = p.coercible; again = ap (option_and_then (λ k. leaf k (map OfType s.inputs))) f ∙ p.again; core = p.core }
 
 ternary-settles : (os : List Operand) (s : Signature) → AreCoreOperands os → ternary_signature os ≡ Some s → Settles ternary_signature os s
 ternary-settles os s h e =
@@ -373,16 +374,16 @@ ternary-settles os s h e =
     subst (λ (z : Signature). Settles ternary_signature os z) (sym p.whole) (subst (λ (z : List Operand). Settles ternary_signature z (masked p.inner)) (sym p.are) made)
   where
     mask : (o : Operand) → IsCoreOperand o → is_mask (own_type o) ≡ true → IsCoercible o value_type.Boolean
-    mask (Known k) c m = inr (c, refl)
-    mask (Free z) c m = go (default_type z) refl m
+    mask (OfType k) c m = inr (c, refl)
+    mask (UntypedInteger z) c m = go (default_type z) refl m
       where
         go : (o : Option ValueType) → default_type z ≡ o → is_mask o ≡ true → ((d : ValueType) × (default_type z ≡ Some d)) × IsCore value_type.Boolean
         go (Some d) f g = ((d, f), refl)
         go None f g = cc
 
 function-settles : (f : FunctionExpr) (os : List Operand) (s : Signature) → AreCoreOperands os → function_signature f os ≡ Some s → Settles (function_signature f) os s
-function-settles (function.Boolean IsNull) os s h e = unary-settles truth_type truth-core os s h e
-function-settles (function.Boolean IsNotNull) os s h e = unary-settles truth_type truth-core os s h e
+function-settles (function.Boolean IsNull) os s h e = unary-settles boolean_result truth-core os s h e
+function-settles (function.Boolean IsNotNull) os s h e = unary-settles boolean_result truth-core os s h e
 function-settles (function.Boolean Not) os s h e = unary-settles number_type (λ j k c g. given-core (is_boolean_or_integer j) j k c g) os s h e
 function-settles function.Negate os s h e = unary-settles signed_type (λ j k c g. given-core (is_integer_value j && not (is_unsigned_value j)) j k c g) os s h e
 function-settles (function.Fused f) os s h e = uniting-settles integer_type (λ j k c g. given-core (is_integer_value j) j k c g) 3 refl os s h e
@@ -456,7 +457,7 @@ module _ (c : Catalog) where
   held-has : (k : ValueType) (z : ℤ) → IsCore k → holds k z ≡ true → Has c (literal (literal_of k z)) k
   held-has k z core e =
       let within : InRange k z = (holds_decides k z).0 e in
-      has-scalar c (literal_of k z) k (Integer z) (folded-scalar k (Integer z) core within) within
+      has-scalar c (literal_of k z) k (IntegerValue z) (folded-scalar k (IntegerValue z) core within) within
 
   default-has : (z : ℤ) (d : ValueType) → default_type z ≡ Some d → Has c (default_literal z (default_type z)) d
   default-has z d e = subst (λ (o : Option ValueType). Has c (default_literal z o) d) (sym e) (held-has d z (default-core z d e) (default-holds z d e))

@@ -5,7 +5,7 @@ use Rattle.std.specs.List.{All}
 use Rattle.std.specs.Prelude.{option_map, option_and_then}
 use Rattle.px_base.specs.declared.error.PlanError.{PlanError}
 use Rattle.px_base.specs.declared.error.PlanError.TheVariants.{InvalidOperation}
-use Rattle.px_semantics.specs.Columns.{is_boolean}
+use Rattle.px_semantics.specs.Rows.{is_boolean, broadcast_lengths}
 use Rattle.px_semantics.specs.Rows.{TypedRows, Contents, stretch}
 use Rattle.px_types.specs.Schemas.{first_repeated, unless_repeated}
 use Rattle.px_types.specs.declared.value_type.ValueType.{ValueType}
@@ -18,7 +18,7 @@ use Rattle.px_expr.specs.Tree.{Tree, Trees, none, more, trees}
 use Rattle.px_meaning.specs.Check.{Typed, check, then_, all_results, or_fault, as_asked, with_names, check_list, HasType}
 use Rattle.px_meaning.specs.Laws.{KeepsMeaning}
 use Rattle.px_meaning.specs.Faults.{HasFault}
-use Rattle.px_meaning.specs.Mean.{all_of, rows, named, mean, broadcast_length_all, as_answer, lined_up, mean_list}
+use Rattle.px_meaning.specs.Mean.{all_of, rows, named, mean, as_answer, lined_up, mean_list}
 use Rattle.px_meaning.specs.Names.{name}
 use Rattle.px_meaning.specs.Rewriting.{Pairwise, AllReach}
 use Rattle.px_meaning.specs.Schema.{Fits}
@@ -135,7 +135,7 @@ abbrev bare : ℕ → TypedRows → Contents
 bare n values = named [] (record { value_type = values.value_type; rows = stretch n values.rows })
 
 abbrev bare_all : List TypedRows → Option (List Contents)
-bare_all vs = option_map (λ n. map (bare n) vs) (broadcast_length_all (map (λ (v : TypedRows). length v.rows) vs))
+bare_all vs = option_map (λ n. map (bare n) vs) (broadcast_lengths (map (λ (v : TypedRows). length v.rows) vs))
 
 abbrev values : Contents → TypedRows
 values c = c.values
@@ -147,7 +147,7 @@ map-map f g (a ∷ as') = ap (λ z. f (g a) ∷ z) (map-map f g as')
 lined-bare : (columns : List Contents) → lined_up Filter columns ≡ bare_all (map values columns)
 lined-bare columns =
     let lengths : map (λ (v : TypedRows). length v.rows) (map values columns) ≡ map (λ (c : Contents). length c.values.rows) columns = map-map (λ (v : TypedRows). length v.rows) values columns in
-    sym (ap (λ (ns : List ℕ). option_map (λ n. map (bare n) (map values columns)) (broadcast_length_all ns)) lengths ∙ each (broadcast_length_all (map (λ (c : Contents). length c.values.rows) columns)))
+    sym (ap (λ (ns : List ℕ). option_map (λ n. map (bare n) (map values columns)) (broadcast_lengths ns)) lengths ∙ each (broadcast_lengths (map (λ (c : Contents). length c.values.rows) columns)))
   where
     each : (o : Option ℕ) → option_map (λ n. map (bare n) (map values columns)) o ≡ option_map (λ n. map (as_answer Filter n) columns) o
     each None = refl

@@ -7,7 +7,7 @@ use Rattle.px_semantics.specs.Bitwise.{bitwise, complement}
 use Rattle.px_types.specs.Classes.{is_boolean_or_integer}
 use Rattle.px_semantics.specs.Comparisons.{compare_row, compare_rows}
 use Rattle.px_semantics.specs.Logic.{logic_row, logic_rows, boolean_logic_row, not_row, inverse_row, inverse_rows, tested_rows, null_row, value_row}
-use Rattle.px_semantics.specs.Rows.{Truth, Text, Integer, Row, TypedRows, Contents, IsRowOf, broadcast_length, elementwise, broadcast_rows, on_integer, lift}
+use Rattle.px_semantics.specs.Rows.{BooleanValue, StringValue, IntegerValue, Row, TypedRows, Contents, IsRowOf, broadcast_length, elementwise, broadcast_rows, on_integer, lift, broadcast_lengths}
 use Rattle.px_types.specs.declared.operator.Operator.{Operator}
 use Rattle.px_types.specs.declared.operator.Operator.TheVariants as op
 use Rattle.px_types.specs.declared.value_type.ValueType.{ValueType}
@@ -19,10 +19,10 @@ use Rattle.px_expr.specs.declared.context.Context.{Context}
 use Rattle.px_expr.specs.declared.context.Context.TheVariants.{Select}
 use Rattle.px_expr.specs.declared.literal.LiteralValue.TheVariants as lit
 use Rattle.px_expr.specs.Tree.{Tree}
-use Rattle.px_semantics.specs.Columns.{is_boolean}
+use Rattle.px_semantics.specs.Rows.{is_boolean}
 use Rattle.px_meaning.specs.Faults.{HasFault, uneven, own, of_input, of_first, of_rest, lengths, HasUnevenInputs}
 use Rattle.px_meaning.specs.Literals.{one_row}
-use Rattle.px_meaning.specs.Mean.{group_rows, binary_rows, of_one, all_of, rows, broadcast_length_all}
+use Rattle.px_meaning.specs.Mean.{group_rows, binary_rows, of_one, all_of, rows}
 use Rattle.px_meaning.specs.Names.{name}
 use Rattle.px_meaning.specs.Rewrites.{binary, not_tree, is_null_tree, is_not_null_tree, truth, IsConjunction, IsDisjunction}
 use Rattle.px_meaning.specs.Schema.{Fits}
@@ -49,15 +49,15 @@ pub record LineKeeps (c : Catalog) (context : Context) (t u : Tree) : Type 0 whe
 pub as_type : (k : ValueType) (a : TypedRows) → a.value_type ≡ k → a ≡ record { value_type = k; rows = a.rows }
 as_type k a e = ap (λ (j : ValueType). record { value_type = j; rows = a.rows }) e
 
-abbrev truths : List Row → TypedRows
-truths rows = record { value_type = value_type.Boolean; rows = rows }
+abbrev boolean_rows_of : List Row → TypedRows
+boolean_rows_of rows = record { value_type = value_type.Boolean; rows = rows }
 
 -- a Boolean literal's type
 truth-value_type : (c : Catalog) (t : Bool) (k : ValueType) → Has c (truth t) k → value_type.Boolean ≡ k
 truth-value_type c t k h = (given-parts _ value_type.Boolean k (literal-has c (lit.Boolean t) k h)).1
 
 has-truth : (c : Catalog) (t : Bool) → Has c (truth t) value_type.Boolean
-has-truth c t = has-literal c (lit.Boolean t) value_type.Boolean refl (ap (λ (b : Bool). given b value_type.Boolean) (one-is_column value_type.Boolean (Some (Truth t)) tt))
+has-truth c t = has-literal c (lit.Boolean t) value_type.Boolean refl (ap (λ (b : Bool). given b value_type.Boolean) (one-is_column value_type.Boolean (Some (BooleanValue t)) tt))
 
 -- `And` and `Or` are logical on columns
 abbrev IsPlain : Operator → Type 0
@@ -70,16 +70,16 @@ plain_or : IsPlain op.Or
 plain_or = (λ a b. refl, λ j k e. (given-parts (is_boolean_or_integer j) j k e).1)
 
 module _ (o : Operator) (e : Bool) where
-  logic-right : ((r : Row) → IsRowOf value_type.Boolean r → boolean_logic_row o r (Some (Truth e)) ≡ r) → (v : TypedRows) → IsColumnOf value_type.Boolean v → logic_rows o v (one_row value_type.Boolean (Some (Truth e))) ≡ Some v
+  logic-right : ((r : Row) → IsRowOf value_type.Boolean r → boolean_logic_row o r (Some (BooleanValue e)) ≡ r) → (v : TypedRows) → IsColumnOf value_type.Boolean v → logic_rows o v (one_row value_type.Boolean (Some (BooleanValue e))) ≡ Some v
   unfolding logic_rows
   logic-right unit v h =
-      ap (λ (a : TypedRows). broadcast_rows a.value_type (logic_row o a.value_type) a.rows (Some (Truth e) ∷ [])) (as_type value_type.Boolean v h.value_type)
-      ∙ (ap (option_map truths) (right_unit (IsRowOf value_type.Boolean) (boolean_logic_row o) (Some (Truth e)) unit v.rows (typed_rows value_type.Boolean v h)) ∙ ap Some (sym (as_type value_type.Boolean v h.value_type)))
+      ap (λ (a : TypedRows). broadcast_rows a.value_type (logic_row o a.value_type) a.rows (Some (BooleanValue e) ∷ [])) (as_type value_type.Boolean v h.value_type)
+      ∙ (ap (option_map boolean_rows_of) (right_unit (IsRowOf value_type.Boolean) (boolean_logic_row o) (Some (BooleanValue e)) unit v.rows (typed_rows value_type.Boolean v h)) ∙ ap Some (sym (as_type value_type.Boolean v h.value_type)))
 
-  logic-left : ((r : Row) → IsRowOf value_type.Boolean r → boolean_logic_row o (Some (Truth e)) r ≡ r) → (v : TypedRows) → IsColumnOf value_type.Boolean v → logic_rows o (one_row value_type.Boolean (Some (Truth e))) v ≡ Some v
+  logic-left : ((r : Row) → IsRowOf value_type.Boolean r → boolean_logic_row o (Some (BooleanValue e)) r ≡ r) → (v : TypedRows) → IsColumnOf value_type.Boolean v → logic_rows o (one_row value_type.Boolean (Some (BooleanValue e))) v ≡ Some v
   unfolding logic_rows
   logic-left unit v h =
-      ap (option_map truths) (left_unit (IsRowOf value_type.Boolean) (boolean_logic_row o) (Some (Truth e)) unit v.rows (typed_rows value_type.Boolean v h)) ∙ ap Some (sym (as_type value_type.Boolean v h.value_type))
+      ap (option_map boolean_rows_of) (left_unit (IsRowOf value_type.Boolean) (boolean_logic_row o) (Some (BooleanValue e)) unit v.rows (typed_rows value_type.Boolean v h)) ∙ ap Some (sym (as_type value_type.Boolean v h.value_type))
 
   module _ (plain : IsPlain o) (c : Catalog) (context : Context) (x : Tree) where
     right-value_type : (k : ValueType) → Has c (binary o x (truth e)) k → Has c x value_type.Boolean × (value_type.Boolean ≡ k)
@@ -95,7 +95,7 @@ module _ (o : Operator) (e : Bool) where
         (subst (Has c x) (sym b) p.right, b ∙ plain.1 p.value_type k p.gives)
 
     -- an operator with a right operand that changes nothing
-    pub right-unit-keeps : ((r : Row) → IsRowOf value_type.Boolean r → boolean_logic_row o r (Some (Truth e)) ≡ r) → LineKeeps c context (binary o x (truth e)) x
+    pub right-unit-keeps : ((r : Row) → IsRowOf value_type.Boolean r → boolean_logic_row o r (Some (BooleanValue e)) ≡ r) → LineKeeps c context (binary o x (truth e)) x
     right-unit-keeps unit =
         record {
           value_type = λ k h. let (hx, b) = right-value_type k h in subst (Has c x) b hx;
@@ -105,12 +105,12 @@ module _ (o : Operator) (e : Bool) where
           lighter = omega (arith, weight-binary o x (truth e));
         }
       where
-        go : (m : Option TypedRows) → ((v : TypedRows) → m ≡ Some v → IsColumnOf value_type.Boolean v) → option_and_then (binary_rows o) (all_of (m ∷ Some (one_row value_type.Boolean (Some (Truth e))) ∷ [])) ≡ m
+        go : (m : Option TypedRows) → ((v : TypedRows) → m ≡ Some v → IsColumnOf value_type.Boolean v) → option_and_then (binary_rows o) (all_of (m ∷ Some (one_row value_type.Boolean (Some (BooleanValue e))) ∷ [])) ≡ m
         go None h = refl
-        go (Some v) h = plain.0 v (one_row value_type.Boolean (Some (Truth e))) ∙ logic-right unit v (h v refl)
+        go (Some v) h = plain.0 v (one_row value_type.Boolean (Some (BooleanValue e))) ∙ logic-right unit v (h v refl)
 
     -- an operator with a left operand that changes nothing, where the name does not matter
-    pub left-unit-keeps : ((r : Row) → IsRowOf value_type.Boolean r → boolean_logic_row o (Some (Truth e)) r ≡ r) → (context ≡ Select → ⊥) → LineKeeps c context (binary o (truth e) x) x
+    pub left-unit-keeps : ((r : Row) → IsRowOf value_type.Boolean r → boolean_logic_row o (Some (BooleanValue e)) r ≡ r) → (context ≡ Select → ⊥) → LineKeeps c context (binary o (truth e) x) x
     left-unit-keeps unit nameless =
         record {
           value_type = λ k h. let (hx, b) = left-value_type k h in subst (Has c x) b hx;
@@ -120,9 +120,9 @@ module _ (o : Operator) (e : Bool) where
           lighter = omega (arith, weight-binary o (truth e) x);
         }
       where
-        go : (m : Option TypedRows) → ((v : TypedRows) → m ≡ Some v → IsColumnOf value_type.Boolean v) → option_and_then (binary_rows o) (all_of (Some (one_row value_type.Boolean (Some (Truth e))) ∷ m ∷ [])) ≡ m
+        go : (m : Option TypedRows) → ((v : TypedRows) → m ≡ Some v → IsColumnOf value_type.Boolean v) → option_and_then (binary_rows o) (all_of (Some (one_row value_type.Boolean (Some (BooleanValue e))) ∷ m ∷ [])) ≡ m
         go None h = refl
-        go (Some v) h = plain.0 (one_row value_type.Boolean (Some (Truth e))) v ∙ logic-left unit v (h v refl)
+        go (Some v) h = plain.0 (one_row value_type.Boolean (Some (BooleanValue e))) v ∙ logic-left unit v (h v refl)
 
 pub and-true-keeps : (c : Catalog) (context : Context) (x : Tree) → LineKeeps c context (binary op.And x (truth true)) x
 and-true-keeps c context x = right-unit-keeps op.And true plain_and c context x and-true
@@ -145,9 +145,9 @@ inverse-twice k None n h = twice k
     twice : (k : ValueType) → inverse_row k (inverse_row k None) ≡ None
     twice value_type.Boolean = refl
     twice _ = refl
-inverse-twice k (Some (Truth t)) n h = absurd h
-inverse-twice k (Some (Text t)) n h = absurd h
-inverse-twice k (Some (Integer z)) n h = ap (λ y. Some (Integer y)) (complement-twice k z h)
+inverse-twice k (Some (BooleanValue t)) n h = absurd h
+inverse-twice k (Some (StringValue t)) n h = absurd h
+inverse-twice k (Some (IntegerValue z)) n h = ap (λ y. Some (IntegerValue y)) (complement-twice k z h)
 
 -- what a function of one column means
 unary-of : (f : TypedRows → TypedRows) (m : Option TypedRows) → option_and_then (of_one (λ a. Some (f a))) (all_of (m ∷ [])) ≡ option_map f m
@@ -191,7 +191,7 @@ not-truth-keeps c context t =
       lighter = omega (arith, weight-not (truth t));
     }
   where
-    go : (t : Bool) → Some (inverse_rows (one_row value_type.Boolean (Some (Truth t)))) ≡ Some (one_row value_type.Boolean (Some (Truth (not t))))
+    go : (t : Bool) → Some (inverse_rows (one_row value_type.Boolean (Some (BooleanValue t)))) ≡ Some (one_row value_type.Boolean (Some (BooleanValue (not t))))
     go true = refl
     go false = refl
 
@@ -211,7 +211,7 @@ not-is_null-keeps c context x =
   where
     go : (m : Option TypedRows) → option_map inverse_rows (option_map (tested_rows null_row) m) ≡ option_map (tested_rows value_row) m
     go None = refl
-    go (Some v) = ap (λ (rows : List Row). Some (truths rows)) (map-map not_row null_row value_row not-null v.rows)
+    go (Some v) = ap (λ (rows : List Row). Some (boolean_rows_of rows)) (map-map not_row null_row value_row not-null v.rows)
 
 pub not-is_not_null-keeps : (c : Catalog) (context : Context) (x : Tree) → LineKeeps c context (not_tree (is_not_null_tree x)) (is_null_tree x)
 not-is_not_null-keeps c context x =
@@ -228,25 +228,25 @@ not-is_not_null-keeps c context x =
   where
     go : (m : Option TypedRows) → option_map inverse_rows (option_map (tested_rows value_row) m) ≡ option_map (tested_rows null_row) m
     go None = refl
-    go (Some v) = ap (λ (rows : List Row). Some (truths rows)) (map-map not_row value_row null_row not-value v.rows)
+    go (Some v) = ap (λ (rows : List Row). Some (boolean_rows_of rows)) (map-map not_row value_row null_row not-value v.rows)
 
 -- De Morgan on rows of a type
 bits-and : (k : ValueType) (x y : Row) → IsRowOf k x → IsRowOf k y → lift (bitwise bit_or k) (on_integer (complement k) x) (on_integer (complement k) y) ≡ on_integer (complement k) (lift (bitwise bit_and k) x y)
-bits-and k (Some (Integer x)) (Some (Integer y)) p q = ap (λ z. Some (Integer z)) (sym (complement-and k x y p q))
-bits-and k (Some (Integer x)) (Some (Truth t)) p q = refl
-bits-and k (Some (Integer x)) (Some (Text t)) p q = refl
-bits-and k (Some (Integer x)) None p q = refl
-bits-and k (Some (Truth t)) y p q = refl
-bits-and k (Some (Text t)) y p q = refl
+bits-and k (Some (IntegerValue x)) (Some (IntegerValue y)) p q = ap (λ z. Some (IntegerValue z)) (sym (complement-and k x y p q))
+bits-and k (Some (IntegerValue x)) (Some (BooleanValue t)) p q = refl
+bits-and k (Some (IntegerValue x)) (Some (StringValue t)) p q = refl
+bits-and k (Some (IntegerValue x)) None p q = refl
+bits-and k (Some (BooleanValue t)) y p q = refl
+bits-and k (Some (StringValue t)) y p q = refl
 bits-and k None y p q = refl
 
 bits-or : (k : ValueType) (x y : Row) → IsRowOf k x → IsRowOf k y → lift (bitwise bit_and k) (on_integer (complement k) x) (on_integer (complement k) y) ≡ on_integer (complement k) (lift (bitwise bit_or k) x y)
-bits-or k (Some (Integer x)) (Some (Integer y)) p q = ap (λ z. Some (Integer z)) (sym (complement-or k x y p q))
-bits-or k (Some (Integer x)) (Some (Truth t)) p q = refl
-bits-or k (Some (Integer x)) (Some (Text t)) p q = refl
-bits-or k (Some (Integer x)) None p q = refl
-bits-or k (Some (Truth t)) y p q = refl
-bits-or k (Some (Text t)) y p q = refl
+bits-or k (Some (IntegerValue x)) (Some (IntegerValue y)) p q = ap (λ z. Some (IntegerValue z)) (sym (complement-or k x y p q))
+bits-or k (Some (IntegerValue x)) (Some (BooleanValue t)) p q = refl
+bits-or k (Some (IntegerValue x)) (Some (StringValue t)) p q = refl
+bits-or k (Some (IntegerValue x)) None p q = refl
+bits-or k (Some (BooleanValue t)) y p q = refl
+bits-or k (Some (StringValue t)) y p q = refl
 bits-or k None y p q = refl
 
 -- the negation of what the first operator gives is what the second gives of the negations
@@ -329,7 +329,7 @@ uneven-before (Some a) (Some b) (cols, e, f) =
       a ∷ b ∷ [],
       refl,
       ap (λ (m : ℕ). broadcast_length m (length b.rows)) (sym (length-map a.rows (inverse_row a.value_type)))
-          ∙ (ap (broadcast_length (length (inverse_rows a).rows)) (sym (length-map b.rows (inverse_row b.value_type))) ∙ (ap (λ (z : List TypedRows). broadcast_length_all (lengths z)) same ∙ f)),
+          ∙ (ap (broadcast_length (length (inverse_rows a).rows)) (sym (length-map b.rows (inverse_row b.value_type))) ∙ (ap (λ (z : List TypedRows). broadcast_lengths (lengths z)) same ∙ f)),
     )
 
 module _ (o o' : Operator) (turns : Turns o o') (c : Catalog) (context : Context) (a b : Tree) where
@@ -407,9 +407,9 @@ pub record Opposes (o o' : Operator) : Type 0 where
 module _ (o o' : Operator) (opposes : Opposes o o') (c : Catalog) (context : Context) (a b : Tree) where
   opposed-rows : (v w : TypedRows) → option_map inverse_rows (compare_rows o v w) ≡ compare_rows o' v w
   unfolding compare_rows
-  opposed-rows v w = go (elementwise (compare_row o) v.rows w.rows) ∙ ap (option_map truths) (elementwise-after not_row (compare_row o) (compare_row o') opposes.opposite v.rows w.rows)
+  opposed-rows v w = go (elementwise (compare_row o) v.rows w.rows) ∙ ap (option_map boolean_rows_of) (elementwise-after not_row (compare_row o) (compare_row o') opposes.opposite v.rows w.rows)
     where
-      go : (m : Option (List Row)) → option_map inverse_rows (option_map truths m) ≡ option_map truths (option_map (map not_row) m)
+      go : (m : Option (List Row)) → option_map inverse_rows (option_map boolean_rows_of m) ≡ option_map boolean_rows_of (option_map (map not_row) m)
       go None = refl
       go (Some rows) = refl
 

@@ -6,7 +6,7 @@ use Rattle.px_expr.specs.Plan.{Catalog}
 use Rattle.px_expr.specs.Tree.{Node, Alias, Column, Literal, Binary, Cast, Gather, Slice, Filter, Ternary, Agg, Function, AnonymousFunction, Len, Aggregate, Min, Max, First, Last, Sum, Count, Tree, tree, Trees, none, more}
 use Rattle.px_meaning.specs.Check.{Typed, check, resolve}
 use Rattle.px_meaning.specs.Lowerable.{IsPlanAggregate, IsPlanNode, IsLowerable, AreLowerable, is_plan_aggregate, is_plan_node, is_lowerable, are_lowerable}
-use Rattle.px_meaning.specs.Signatures.{Operand, Known, Signature, signature}
+use Rattle.px_meaning.specs.Signatures.{Operand, OfType, Signature, signature}
 use Rattle.px_meaning.proofs.Gives.{check-gives}
 use Rattle.px_meaning.proofs.Typing.{Has, HaveAll, has, have_none, have_more, HasType-Has, resolve-parts}
 
@@ -29,7 +29,7 @@ resolve-plan c n os s e = signature-plan c.kernels n os s (resolve-parts c n os 
 module _ (c : Catalog) where
   mutual
     pub Has-lowerable : (t : Tree) (k : ValueType) → Has c t k → IsLowerable t
-    Has-lowerable _ k (has {n} {us} {ks} free all signed) = (resolve-plan c n (map Known ks) (record { inputs = ks; result = k }) signed, HaveAll-lowerable us ks all)
+    Has-lowerable _ k (has {n} {us} {ks} free all signed) = (resolve-plan c n (map OfType ks) (record { inputs = ks; result = k }) signed, HaveAll-lowerable us ks all)
 
     HaveAll-lowerable : (us : Trees) (ks : List ValueType) → HaveAll c us ks → AreLowerable us
     HaveAll-lowerable _ _ have_none = tt

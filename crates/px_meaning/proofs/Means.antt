@@ -31,7 +31,7 @@ use Rattle.px_semantics.specs.Columns.{IsColumn, is_column}
 use Rattle.px_meaning.specs.Mean.{group_rows, binary_rows, of_one, of_three, function_rows, own_rows, all_of, node_rows, rows}
 use Rattle.px_meaning.specs.Schema.{schema_of, Fits}
 use Rattle.px_expr.specs.Plan.{Catalog}
-use Rattle.px_meaning.specs.Signatures.{Known, Signature, Group, Arithmetic, Comparison, Bitwise, Logical, Fractional, group_of, group_type, literal_type, cast_type}
+use Rattle.px_meaning.specs.Signatures.{OfType, Signature, Group, Arithmetic, Comparison, Bitwise, Logical, Fractional, group_of, group_type, literal_type, cast_type}
 use Rattle.px_meaning.proofs.Answers.{given-parts}
 use Rattle.px_meaning.proofs.ColumnTypes.{IsColumnOf, broadcast_rows-typed, map-column, three-column, select_rows-typed, cast_rows-typed}
 use Rattle.px_semantics.proofs.ColumnLemmas.{is_column-column}
@@ -156,7 +156,7 @@ module _ (c : Catalog) (frame : List Contents) (fits : Fits frame c.schema) wher
 
   column-typed : (m : List ℕ) → IsTypedNode (Column m)
   column-typed m ks k vs v t h e =
-      let p = column-parts c m (map Known ks) (record { inputs = ks; result = k }) t in
+      let p = column-parts c m (map OfType ks) (record { inputs = ks; result = k }) t in
       let (d, f, g) = map-parts (column_named frame m) (λ (x : Contents). x.values) v e in
       let at : dtype_at c.schema m ≡ Some (dtype_of d.values.value_type) =
       subst (λ (s : _). dtype_at s m ≡ Some (dtype_of d.values.value_type)) fits.same (dtype_at-column_named frame m ∙ ap (option_map (λ (x : Contents). dtype_of x.values.value_type)) f) in

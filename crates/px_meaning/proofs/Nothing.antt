@@ -11,7 +11,7 @@ use Rattle.px_semantics.specs.Comparisons.{compare_row, compare_rows}
 use Rattle.px_semantics.specs.Frames.{column_named}
 use Rattle.px_semantics.specs.Fused.{fused_row, fused_rows, zip3}
 use Rattle.px_semantics.specs.Logic.{logic_row, logic_rows}
-use Rattle.px_semantics.specs.Rows.{Row, TypedRows, Contents, broadcast_length, stretch, elementwise, broadcast_rows}
+use Rattle.px_semantics.specs.Rows.{Row, TypedRows, Contents, broadcast_length, stretch, elementwise, broadcast_rows, broadcast_lengths}
 use Rattle.px_types.specs.Schemas.{dtype_at}
 use Rattle.px_types.specs.ValueTypes.{value_type_of, dtype_of}
 use Rattle.px_types.specs.declared.dtype.DataType.{DataType}
@@ -27,10 +27,10 @@ use Rattle.px_types.specs.declared.value_type.ValueType.TheVariants as value_typ
 use Rattle.px_expr.specs.declared.literal.LiteralValue.{LiteralValue}
 use Rattle.px_expr.specs.Tree.{Node, Alias, Column, Literal, Binary, Cast, Ternary, Function, Tree, tree, Trees, more, fold_trees}
 use Rattle.px_meaning.specs.Faults.{is_joining, lengths, OwnFault, uneven, lossy, HasFault, SomeHasFault, own, of_input, of_first, of_rest}
-use Rattle.px_meaning.specs.Mean.{group_rows, binary_rows, of_one, of_three, function_rows, own_rows, all_of, node_rows, rows, broadcast_length_all}
+use Rattle.px_meaning.specs.Mean.{group_rows, binary_rows, of_one, of_three, function_rows, own_rows, all_of, node_rows, rows}
 use Rattle.px_meaning.specs.Schema.{Fits}
 use Rattle.px_expr.specs.Plan.{Catalog}
-use Rattle.px_meaning.specs.Signatures.{Known, Group, Arithmetic, Comparison, Bitwise, Logical, Fractional, group_of, group_type, literal_type, signature}
+use Rattle.px_meaning.specs.Signatures.{OfType, Group, Arithmetic, Comparison, Bitwise, Logical, Fractional, group_of, group_type, literal_type, signature}
 use Rattle.px_meaning.proofs.Means.{AreColumns, one_column, two_columns, three_columns, dtype_at-column_named, cast-target, all-typed}
 use Rattle.px_meaning.proofs.Types.{Takes, alias-types, literal-types, binary-types, cast-types, not-types, is_null-types, is_not_null-types, negate-types, fused-types, ternary-types}
 use Rattle.px_meaning.proofs.Typing.{Has, HaveAll, has, have_none, have_more, column-parts}
@@ -65,13 +65,13 @@ none-group Bitwise o a b e = none-broadcast_rows a.value_type (logic_row o a.val
 none-group Logical o a b e = none-broadcast_rows a.value_type (logic_row o a.value_type) a.rows b.rows e
 none-group Fractional o a b e = refl
 
-choose-none : (m a b : TypedRows) → select_rows m a b ≡ None → broadcast_length_three (length m.rows) (length a.rows) (length b.rows) ≡ None
+select_rows-none : (m a b : TypedRows) → select_rows m a b ≡ None → broadcast_length_three (length m.rows) (length a.rows) (length b.rows) ≡ None
 unfolding select_rows
-choose-none m a b e = mapped-none (λ n. of_type a.value_type (select_all (stretch n m.rows) (stretch n a.rows) (stretch n b.rows))) (broadcast_length_three (length m.rows) (length a.rows) (length b.rows)) e
+select_rows-none m a b e = mapped-none (λ n. of_type a.value_type (select_all (stretch n m.rows) (stretch n a.rows) (stretch n b.rows))) (broadcast_length_three (length m.rows) (length a.rows) (length b.rows)) e
 
-none-choose : (m a b : TypedRows) → broadcast_length_three (length m.rows) (length a.rows) (length b.rows) ≡ None → select_rows m a b ≡ None
+none-select_rows : (m a b : TypedRows) → broadcast_length_three (length m.rows) (length a.rows) (length b.rows) ≡ None → select_rows m a b ≡ None
 unfolding select_rows
-none-choose m a b e = ap (option_map (λ n. of_type a.value_type (select_all (stretch n m.rows) (stretch n a.rows) (stretch n b.rows)))) e
+none-select_rows m a b e = ap (option_map (λ n. of_type a.value_type (select_all (stretch n m.rows) (stretch n a.rows) (stretch n b.rows)))) e
 
 fused-none : (f : FusedOperator) (a b d : TypedRows) → fused_rows f a b d ≡ None → broadcast_length_three (length a.rows) (length b.rows) (length d.rows) ≡ None
 unfolding fused_rows
@@ -120,7 +120,7 @@ module _ (c : Catalog) (frame : List Contents) (fits : Fits frame c.schema) wher
   abbrev pub FaultOver : Node → List TypedRows → Type 0
   FaultOver n vs = (f : PlanError) × ((ms : List (Option TypedRows)) → all_of ms ≡ Some vs → OwnFault c.kernels frame n ms f)
 
-  uneven-over : (n : Node) (vs : List TypedRows) → is_joining n ≡ true → broadcast_length_all (lengths vs) ≡ None → FaultOver n vs
+  uneven-over : (n : Node) (vs : List TypedRows) → is_joining n ≡ true → broadcast_lengths (lengths vs) ≡ None → FaultOver n vs
   uneven-over n vs joins e = (ShapeMismatch, λ ms all. uneven joins (vs, all, e))
 
   -- where a node gives nothing over columns of types that it takes, it has a fault
@@ -129,7 +129,7 @@ module _ (c : Catalog) (frame : List Contents) (fits : Fits frame c.schema) wher
 
   explains-column : (m : List ℕ) → Explains (Column m)
   explains-column m ks k vs t h e =
-      let p = column-parts c m (map Known ks) (record { inputs = ks; result = k }) t in
+      let p = column-parts c m (map OfType ks) (record { inputs = ks; result = k }) t in
       let absent = mapped-none (λ (x : Contents). x.values) (column_named frame m) e in
       let at : dtype_at c.schema m ≡ None = subst (λ (s : _). dtype_at s m ≡ None) fits.same (dtype_at-column_named frame m ∙ ap (option_map (λ (x : Contents). dtype_of x.values.value_type)) absent) in
       let there : dtype_at c.schema m ≡ Some p.dtype = p.at in
@@ -152,7 +152,7 @@ module _ (c : Catalog) (frame : List Contents) (fits : Fits frame c.schema) wher
       let (j, f, g) = binary-types c o ks k t in
       let (a, b, i, ha, hb) = two_columns j j ks vs f h in
       let apart = group-none (group_of o) o a b j k g (sym (ap (binary_rows o) i) ∙ e) in
-      uneven-over (Binary o) vs refl (ap (λ (z : List TypedRows). broadcast_length_all (lengths z)) i ∙ apart)
+      uneven-over (Binary o) vs refl (ap (λ (z : List TypedRows). broadcast_lengths (lengths z)) i ∙ apart)
 
   explains-cast : (dtype : DataType) (options : CastOptions) → Explains (Cast dtype options)
   explains-cast dtype options ks k vs t h e =
@@ -170,8 +170,8 @@ module _ (c : Catalog) (frame : List Contents) (fits : Fits frame c.schema) wher
   explains-ternary : Explains Ternary
   explains-ternary ks k vs t h e =
       let (m, a, b, f, hm, ha, hb) = three_columns value_type.Boolean k k ks vs (ternary-types c ks k t) h in
-      let apart = choose-none m a b (sym (ap (of_three select_rows) f) ∙ e) in
-      uneven-over Ternary vs refl (ap (λ (z : List TypedRows). broadcast_length_all (lengths z)) f ∙ apart)
+      let apart = select_rows-none m a b (sym (ap (of_three select_rows) f) ∙ e) in
+      uneven-over Ternary vs refl (ap (λ (z : List TypedRows). broadcast_lengths (lengths z)) f ∙ apart)
 
   explains-function : (f : FunctionExpr) → Explains (Function f)
   explains-function (function.Boolean IsNull) ks k vs t h e =
@@ -194,7 +194,7 @@ module _ (c : Catalog) (frame : List Contents) (fits : Fits frame c.schema) wher
       let (f, g) = fused-types c o ks k t in
       let (x, y, z, i, hx, hy, hz) = three_columns k k k ks vs f h in
       let apart = fused-none o x y z (sym (ap (function_rows (function.Fused o)) i) ∙ e) in
-      uneven-over (Function (function.Fused o)) vs refl (ap (λ (z : List TypedRows). broadcast_length_all (lengths z)) i ∙ apart)
+      uneven-over (Function (function.Fused o)) vs refl (ap (λ (z : List TypedRows). broadcast_lengths (lengths z)) i ∙ apart)
 
   pub explains : (n : Node) → Explains n
   unfolding signature
@@ -208,18 +208,18 @@ module _ (c : Catalog) (frame : List Contents) (fits : Fits frame c.schema) wher
   explains _ = λ ks k vs t h e. cc
 
   -- a node with a fault gives nothing over columns of types that it takes
-  joining-nothing : (n : Node) (ks : List ValueType) (k : ValueType) (vs : List TypedRows) → is_joining n ≡ true → Takes c n ks k → AreColumns ks vs → broadcast_length_all (lengths vs) ≡ None → own_rows c.kernels frame n vs ≡ None
+  joining-nothing : (n : Node) (ks : List ValueType) (k : ValueType) (vs : List TypedRows) → is_joining n ≡ true → Takes c n ks k → AreColumns ks vs → broadcast_lengths (lengths vs) ≡ None → own_rows c.kernels frame n vs ≡ None
   joining-nothing (Binary o) ks k vs joins t h e =
       let (j, f, g) = binary-types c o ks k t in
       let (a, b, i, ha, hb) = two_columns j j ks vs f h in
-      ap (binary_rows o) i ∙ none-group (group_of o) o a b (sym (ap (λ (z : List TypedRows). broadcast_length_all (lengths z)) i) ∙ e)
+      ap (binary_rows o) i ∙ none-group (group_of o) o a b (sym (ap (λ (z : List TypedRows). broadcast_lengths (lengths z)) i) ∙ e)
   joining-nothing Ternary ks k vs joins t h e =
       let (m, a, b, f, hm, ha, hb) = three_columns value_type.Boolean k k ks vs (ternary-types c ks k t) h in
-      ap (of_three select_rows) f ∙ none-choose m a b (sym (ap (λ (z : List TypedRows). broadcast_length_all (lengths z)) f) ∙ e)
+      ap (of_three select_rows) f ∙ none-select_rows m a b (sym (ap (λ (z : List TypedRows). broadcast_lengths (lengths z)) f) ∙ e)
   joining-nothing (Function (function.Fused o)) ks k vs joins t h e =
       let (f, g) = fused-types c o ks k t in
       let (x, y, z, i, hx, hy, hz) = three_columns k k k ks vs f h in
-      ap (function_rows (function.Fused o)) i ∙ none-fused o x y z (sym (ap (λ (z : List TypedRows). broadcast_length_all (lengths z)) i) ∙ e)
+      ap (function_rows (function.Fused o)) i ∙ none-fused o x y z (sym (ap (λ (z : List TypedRows). broadcast_lengths (lengths z)) i) ∙ e)
   joining-nothing (Function (function.Boolean f)) ks k vs joins t h e = cc
   joining-nothing (Function function.Negate) ks k vs joins t h e = cc
   joining-nothing _ ks k vs joins t h e = cc
@@ -228,7 +228,7 @@ module _ (c : Catalog) (frame : List Contents) (fits : Fits frame c.schema) wher
   fault-nothing-over n ks k ms vs _ (uneven joins (cols, e, apart)) all t h =
       let same : Some cols ≡ Some vs = sym e ∙ all in
       let is : cols ≡ vs = cc in
-      joining-nothing n ks k vs joins t h (subst (λ (z : List TypedRows). broadcast_length_all (lengths z) ≡ None) is apart)
+      joining-nothing n ks k vs joins t h (subst (λ (z : List TypedRows). broadcast_lengths (lengths z) ≡ None) is apart)
   fault-nothing-over _ ks k ms vs _ (lossy {dtype} to e (a, q, lost)) all t h =
       let same : Some (a ∷ []) ≡ Some vs = sym (ap all_of q) ∙ all in
       let is : a ∷ [] ≡ vs = cc in

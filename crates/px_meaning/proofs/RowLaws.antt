@@ -5,7 +5,7 @@ use Rattle.std.specs.Simd.Lanes.{Each1, zip2}
 use Rattle.std.proofs.lemmas.List.{length-map}
 use Rattle.px_semantics.specs.Comparisons.{compare_row, test_row, less, equal}
 use Rattle.px_semantics.specs.Logic.{boolean_logic_row, not_row, null_row, value_row}
-use Rattle.px_semantics.specs.Rows.{Datum, Truth, Text, Integer, Row, IsRowOf, broadcast_length, stretch, elementwise}
+use Rattle.px_semantics.specs.Rows.{Datum, BooleanValue, StringValue, IntegerValue, Row, IsRowOf, broadcast_length, stretch, elementwise}
 use Rattle.px_types.specs.declared.operator.Operator.TheVariants as op
 use Rattle.px_types.specs.declared.value_type.ValueType.TheVariants as value_type
 use Rattle.px_semantics.proofs.LawLemmas.{by_eq}
@@ -31,33 +31,33 @@ right_unit P f e h rows p = elim (by_eq (length rows) 1) [
     single (r ∷ []) one p = ap (λ x. x ∷ []) (h r p.0)
     single (r ∷ (s ∷ rows)) one p = absurd (omega arith)
 
-pub and-true : (r : Row) → IsRowOf value_type.Boolean r → boolean_logic_row op.And r (Some (Truth true)) ≡ r
+pub and-true : (r : Row) → IsRowOf value_type.Boolean r → boolean_logic_row op.And r (Some (BooleanValue true)) ≡ r
 and-true None h = refl
-and-true (Some (Truth true)) h = refl
-and-true (Some (Truth false)) h = refl
-and-true (Some (Text b)) h = absurd h
-and-true (Some (Integer z)) h = absurd h
+and-true (Some (BooleanValue true)) h = refl
+and-true (Some (BooleanValue false)) h = refl
+and-true (Some (StringValue b)) h = absurd h
+and-true (Some (IntegerValue z)) h = absurd h
 
-pub true-and : (r : Row) → IsRowOf value_type.Boolean r → boolean_logic_row op.And (Some (Truth true)) r ≡ r
+pub true-and : (r : Row) → IsRowOf value_type.Boolean r → boolean_logic_row op.And (Some (BooleanValue true)) r ≡ r
 true-and None h = refl
-true-and (Some (Truth true)) h = refl
-true-and (Some (Truth false)) h = refl
-true-and (Some (Text b)) h = absurd h
-true-and (Some (Integer z)) h = absurd h
+true-and (Some (BooleanValue true)) h = refl
+true-and (Some (BooleanValue false)) h = refl
+true-and (Some (StringValue b)) h = absurd h
+true-and (Some (IntegerValue z)) h = absurd h
 
-pub or-false : (r : Row) → IsRowOf value_type.Boolean r → boolean_logic_row op.Or r (Some (Truth false)) ≡ r
+pub or-false : (r : Row) → IsRowOf value_type.Boolean r → boolean_logic_row op.Or r (Some (BooleanValue false)) ≡ r
 or-false None h = refl
-or-false (Some (Truth true)) h = refl
-or-false (Some (Truth false)) h = refl
-or-false (Some (Text b)) h = absurd h
-or-false (Some (Integer z)) h = absurd h
+or-false (Some (BooleanValue true)) h = refl
+or-false (Some (BooleanValue false)) h = refl
+or-false (Some (StringValue b)) h = absurd h
+or-false (Some (IntegerValue z)) h = absurd h
 
-pub false-or : (r : Row) → IsRowOf value_type.Boolean r → boolean_logic_row op.Or (Some (Truth false)) r ≡ r
+pub false-or : (r : Row) → IsRowOf value_type.Boolean r → boolean_logic_row op.Or (Some (BooleanValue false)) r ≡ r
 false-or None h = refl
-false-or (Some (Truth true)) h = refl
-false-or (Some (Truth false)) h = refl
-false-or (Some (Text b)) h = absurd h
-false-or (Some (Integer z)) h = absurd h
+false-or (Some (BooleanValue true)) h = refl
+false-or (Some (BooleanValue false)) h = refl
+false-or (Some (StringValue b)) h = absurd h
+false-or (Some (IntegerValue z)) h = absurd h
 
 -- a function of each row before or after what is done row by row
 map-replicate : (h : Row → Row) (n : ℕ) (r : Row) → map h (replicate n r) ≡ replicate n (h r)
@@ -124,7 +124,7 @@ elementwise-after h f g same xs ys = go (broadcast_length (length xs) (length ys
     go None = refl
     go (Some n) = ap Some (map-zip2 h f g same (stretch n xs) (stretch n ys))
 
-opposite : (b : Bool) → not_row (Some (Truth b)) ≡ Some (Truth (not b))
+opposite : (b : Bool) → not_row (Some (BooleanValue b)) ≡ Some (BooleanValue (not b))
 opposite true = refl
 opposite false = refl
 
@@ -136,7 +136,7 @@ twice false = refl
 pub not-test : (f g : Datum → Datum → Bool) → ((d e : Datum) → not (f d e) ≡ g d e) → (x y : Row) → not_row (test_row f x y) ≡ test_row g x y
 not-test f g h None y = refl
 not-test f g h (Some d) None = refl
-not-test f g h (Some d) (Some e) = opposite (f d e) ∙ ap (λ b. Some (Truth b)) (h d e)
+not-test f g h (Some d) (Some e) = opposite (f d e) ∙ ap (λ b. Some (BooleanValue b)) (h d e)
 
 pub not-Eq : (x y : Row) → not_row (compare_row op.Eq x y) ≡ compare_row op.NotEq x y
 not-Eq = not-test equal (λ a b. not (equal a b)) (λ d e. refl)

@@ -7,13 +7,13 @@ use Rattle.std.proofs.lemmas.Int.{SFits-int_wrap}
 use Rattle.std.proofs.lemmas.Nat.{or_lt, xor_lt}
 use Rattle.px_semantics.specs.Arithmetic.{arith_row, lift_nonzero, floor_quotient, floor_remainder, is_zero}
 use Rattle.px_semantics.specs.Bitwise.{bitwise, complement}
-use Rattle.px_semantics.specs.Casts.{in_type, as_integer, as_truth, as_text, cast_value, cast_row}
+use Rattle.px_semantics.specs.Casts.{in_type, as_integer, as_boolean, as_string, cast_value, cast_row}
 use Rattle.px_semantics.specs.Comparisons.{compare_row, both_pass, less, equal}
 use Rattle.px_semantics.specs.Fused.{fused, fused_row}
 use Rattle.px_types.specs.Integers.{into, InRange}
 use Rattle.px_semantics.specs.Logic.{logic_row, boolean_logic_row, decided_row, inverse_row, null_row, value_row, word_of}
 use Rattle.px_types.proofs.Residues.{residue_within}
-use Rattle.px_semantics.specs.Rows.{Datum, Truth, Text, Integer, Row, IsRowOf, boolean_entry, on_integer, lift}
+use Rattle.px_semantics.specs.Rows.{Datum, BooleanValue, StringValue, IntegerValue, Row, IsRowOf, boolean_entry, on_integer, lift}
 use Rattle.px_types.specs.ValueTypes.{holds}
 use Rattle.px_types.specs.declared.function.FusedOperator.{FusedOperator}
 use Rattle.px_types.specs.declared.type_parts.CastOptions.{CastOptions}
@@ -75,22 +75,22 @@ word_of-keeps _ = xor_lt
 
 -- f on rows of integers of a type, where f keeps to the type
 pub lift-typed : (k : ValueType) (f : ℤ → ℤ → ℤ) → ((x y : ℤ) → InRange k x → InRange k y → InRange k (f x y)) → (r s : Row) → IsRowOf k r → IsRowOf k s → IsRowOf k (lift f r s)
-lift-typed k f h (Some (Integer x)) (Some (Integer y)) p q = h x y p q
+lift-typed k f h (Some (IntegerValue x)) (Some (IntegerValue y)) p q = h x y p q
 lift-typed k f h _ _ p q = tt
 
 lift_nonzero-typed :
     (k : ValueType) (f : ℤ → ℤ → ℤ) → ((x y : ℤ) → InRange k x → InRange k y → is_zero y ≡ false → InRange k (f x y)) → (r s : Row) → IsRowOf k r → IsRowOf k s →
     IsRowOf k (lift_nonzero f r s)
-lift_nonzero-typed k f h (Some (Integer x)) (Some (Integer y)) p q = go (is_zero y) refl
+lift_nonzero-typed k f h (Some (IntegerValue x)) (Some (IntegerValue y)) p q = go (is_zero y) refl
   where
-    go : (b : Bool) → is_zero y ≡ b → IsRowOf k (lift f (Some (Integer x)) (cond b None (Some (Integer y))))
+    go : (b : Bool) → is_zero y ≡ b → IsRowOf k (lift f (Some (IntegerValue x)) (cond b None (Some (IntegerValue y))))
     go true e = tt
     go false e = h x y p q e
-lift_nonzero-typed k f h (Some (Integer x)) (Some (Truth t)) p q = tt
-lift_nonzero-typed k f h (Some (Integer x)) (Some (Text t)) p q = tt
-lift_nonzero-typed k f h (Some (Integer x)) None p q = tt
-lift_nonzero-typed k f h (Some (Truth t)) s p q = tt
-lift_nonzero-typed k f h (Some (Text t)) s p q = tt
+lift_nonzero-typed k f h (Some (IntegerValue x)) (Some (BooleanValue t)) p q = tt
+lift_nonzero-typed k f h (Some (IntegerValue x)) (Some (StringValue t)) p q = tt
+lift_nonzero-typed k f h (Some (IntegerValue x)) None p q = tt
+lift_nonzero-typed k f h (Some (BooleanValue t)) s p q = tt
+lift_nonzero-typed k f h (Some (StringValue t)) s p q = tt
 lift_nonzero-typed k f h None s p q = tt
 
 rest_in : (k : ValueType) (x y : ℤ) → InRange k x → InRange k y → is_zero y ≡ false → InRange k (floor_remainder x y)
@@ -152,7 +152,7 @@ logic_row-typed o value_type.Int64 r s p q = bits-typed o value_type.Int64 r s p
 
 -- the negations of integers and their bits
 on_integer-typed : (k : ValueType) (f : ℤ → ℤ) → ((x : ℤ) → InRange k x → InRange k (f x)) → (r : Row) → IsRowOf k r → IsRowOf k (on_integer f r)
-on_integer-typed k f h (Some (Integer x)) p = h x p
+on_integer-typed k f h (Some (IntegerValue x)) p = h x p
 on_integer-typed k f h _ p = tt
 
 pub negate_row-typed : (k : ValueType) → is_integer_value k ≡ true → (r : Row) → IsRowOf k r → IsRowOf k (on_integer (λ z. into k (neg_ℤ z)) r)
@@ -181,7 +181,7 @@ value_row-typed (Some d) = tt
 
 -- a fused form keeps to an integer type
 pub fused_row-typed : (f : FusedOperator) (k : ValueType) → is_integer_value k ≡ true → (r s t : Row) → IsRowOf k (fused_row f k r s t)
-fused_row-typed f k i (Some (Integer x)) (Some (Integer y)) (Some (Integer z)) = into_in k (fused f x y z) i
+fused_row-typed f k i (Some (IntegerValue x)) (Some (IntegerValue y)) (Some (IntegerValue z)) = into_in k (fused f x y z) i
 fused_row-typed f k i _ _ _ = tt
 
 -- an integer in an integer type
@@ -189,12 +189,12 @@ in_type-typed : (options : CastOptions) (k : ValueType) (z : ℤ) → is_integer
 in_type-typed Overflowing k z i = into_in k z i
 in_type-typed Strict k z i = go (holds k z) refl
   where
-    go : (b : Bool) → holds k z ≡ b → IsRowOf k (cond b (Some (Integer z)) None)
+    go : (b : Bool) → holds k z ≡ b → IsRowOf k (cond b (Some (IntegerValue z)) None)
     go true e = (holds_decides k z).0 e
     go false e = tt
 in_type-typed NonStrict k z i = go (holds k z) refl
   where
-    go : (b : Bool) → holds k z ≡ b → IsRowOf k (cond b (Some (Integer z)) None)
+    go : (b : Bool) → holds k z ≡ b → IsRowOf k (cond b (Some (IntegerValue z)) None)
     go true e = (holds_decides k z).0 e
     go false e = tt
 
@@ -221,24 +221,24 @@ truth_in value_type.Int64 true e = (holds_decides value_type.Int64 (pos 1)).0 re
 truth_in value_type.Int64 false e = (holds_decides value_type.Int64 (pos 0)).0 refl
 
 as_integer-typed : (options : CastOptions) (k : ValueType) (d : Datum) → is_integer_value k ≡ true → IsRowOf k (as_integer options k d)
-as_integer-typed options k (Truth t) i = truth_in k t i
-as_integer-typed options k (Integer z) i = in_type-typed options k z i
-as_integer-typed options k (Text b) i = tt
+as_integer-typed options k (BooleanValue t) i = truth_in k t i
+as_integer-typed options k (IntegerValue z) i = in_type-typed options k z i
+as_integer-typed options k (StringValue b) i = tt
 
-as_truth-typed : (d : Datum) → IsRowOf value_type.Boolean (as_truth d)
-as_truth-typed (Truth t) = tt
-as_truth-typed (Integer z) = tt
-as_truth-typed (Text b) = tt
+as_boolean-typed : (d : Datum) → IsRowOf value_type.Boolean (as_boolean d)
+as_boolean-typed (BooleanValue t) = tt
+as_boolean-typed (IntegerValue z) = tt
+as_boolean-typed (StringValue b) = tt
 
-as_text-typed : (d : Datum) → IsRowOf value_type.String (as_text d)
-as_text-typed (Text b) = tt
-as_text-typed (Truth t) = tt
-as_text-typed (Integer z) = tt
+as_string-typed : (d : Datum) → IsRowOf value_type.String (as_string d)
+as_string-typed (StringValue b) = tt
+as_string-typed (BooleanValue t) = tt
+as_string-typed (IntegerValue z) = tt
 
 cast_value-typed : (options : CastOptions) (k : ValueType) (d : Datum) → IsRowOf k (cast_value options k d)
 cast_value-typed options value_type.Null d = tt
-cast_value-typed options value_type.Boolean d = as_truth-typed d
-cast_value-typed options value_type.String d = as_text-typed d
+cast_value-typed options value_type.Boolean d = as_boolean-typed d
+cast_value-typed options value_type.String d = as_string-typed d
 cast_value-typed options value_type.UInt8 d = as_integer-typed options value_type.UInt8 d refl
 cast_value-typed options value_type.UInt16 d = as_integer-typed options value_type.UInt16 d refl
 cast_value-typed options value_type.UInt32 d = as_integer-typed options value_type.UInt32 d refl

@@ -18,14 +18,14 @@ use Rattle.px_expr.specs.declared.literal.LiteralValue.{LiteralValue}
 use Rattle.px_expr.specs.Tree.{Node, Alias, Literal, Binary, Cast, Ternary, Function}
 use Rattle.px_meaning.specs.Literals.{literal_rows}
 use Rattle.px_expr.specs.Plan.{Catalog}
-use Rattle.px_meaning.specs.Signatures.{Operand, Known, Signature, signature, unary, uniting, of_united, united, widened, common_of, leaf, any_type, cast_type, truth_type, number_type, signed_type, integer_type, group_type, group_of, ternary_signature, literal_type, masked, given}
+use Rattle.px_meaning.specs.Signatures.{Operand, OfType, Signature, signature, unary, uniting, of_united, united, widened, common_of, leaf, any_type, cast_type, boolean_result, number_type, signed_type, integer_type, group_type, group_of, ternary_signature, literal_type, masked, given}
 use Rattle.px_meaning.specs.Check.{resolve, or_fault}
 use Rattle.px_meaning.proofs.Answers.{from_option, given-parts}
 use Rattle.px_meaning.proofs.Shapes.{and_then-parts, leaf-parts, unary-parts, uniting-parts, ternary-parts}
 
 -- the node takes inputs of these types as they are, and has this type then
 abbrev pub Takes : Catalog → Node → List ValueType → ValueType → Type 0
-Takes c n ks k = resolve c n (map Known ks) ≡ Ok (record { inputs = ks; result = k })
+Takes c n ks k = resolve c n (map OfType ks) ≡ Ok (record { inputs = ks; result = k })
 
 abbrev signed : List ValueType → ValueType → Signature
 signed ks k = record { inputs = ks; result = k }
@@ -49,109 +49,109 @@ record ThreeLong (ks : List ValueType) : Type 0 where
 counted : (m n : ℕ) → (m == n) ≡ true → m ≡ n
 counted m n e = grind (arith, nat_tests)
 
-two-long : (ks : List ValueType) → (length (map Known ks) == 2) ≡ true → TwoLong ks
+two-long : (ks : List ValueType) → (length (map OfType ks) == 2) ≡ true → TwoLong ks
 two-long [] e = cc
-two-long (a ∷ []) e = let h : length (map Known (a ∷ [])) ≡ 2 = counted (length (map Known (a ∷ []))) 2 e in absurd (omega arith)
+two-long (a ∷ []) e = let h : length (map OfType (a ∷ [])) ≡ 2 = counted (length (map OfType (a ∷ []))) 2 e in absurd (omega arith)
 two-long (a ∷ (b ∷ [])) e = record { first = a; second = b; are = refl }
 two-long (a ∷ (b ∷ (d ∷ ks))) e =
-    let h : length (map Known (a ∷ b ∷ d ∷ ks)) ≡ 2 = counted (length (map Known (a ∷ b ∷ d ∷ ks))) 2 e in absurd (omega arith)
+    let h : length (map OfType (a ∷ b ∷ d ∷ ks)) ≡ 2 = counted (length (map OfType (a ∷ b ∷ d ∷ ks))) 2 e in absurd (omega arith)
 
-three-long : (ks : List ValueType) → (length (map Known ks) == 3) ≡ true → ThreeLong ks
+three-long : (ks : List ValueType) → (length (map OfType ks) == 3) ≡ true → ThreeLong ks
 three-long [] e = cc
-three-long (a ∷ []) e = let h : length (map Known (a ∷ [])) ≡ 3 = counted (length (map Known (a ∷ []))) 3 e in absurd (omega arith)
-three-long (a ∷ (b ∷ [])) e = let h : length (map Known (a ∷ b ∷ [])) ≡ 3 = counted (length (map Known (a ∷ b ∷ []))) 3 e in absurd (omega arith)
+three-long (a ∷ []) e = let h : length (map OfType (a ∷ [])) ≡ 3 = counted (length (map OfType (a ∷ []))) 3 e in absurd (omega arith)
+three-long (a ∷ (b ∷ [])) e = let h : length (map OfType (a ∷ b ∷ [])) ≡ 3 = counted (length (map OfType (a ∷ b ∷ []))) 3 e in absurd (omega arith)
 three-long (a ∷ (b ∷ (d ∷ []))) e = record { first = a; second = b; third = d; are = refl }
 three-long (a ∷ (b ∷ (d ∷ (k ∷ ks)))) e =
-    let h : length (map Known (a ∷ b ∷ d ∷ k ∷ ks)) ≡ 3 = counted (length (map Known (a ∷ b ∷ d ∷ k ∷ ks))) 3 e in absurd (omega arith)
+    let h : length (map OfType (a ∷ b ∷ d ∷ k ∷ ks)) ≡ 3 = counted (length (map OfType (a ∷ b ∷ d ∷ k ∷ ks))) 3 e in absurd (omega arith)
 
 -- the input of a node of one input
-pub unary-types : (result : ValueType → Option ValueType) (ks : List ValueType) (k : ValueType) → unary result (map Known ks) ≡ Some (signed ks k) → (j : ValueType) × (ks ≡ j ∷ []) × (result j ≡ Some k)
+pub unary-types : (result : ValueType → Option ValueType) (ks : List ValueType) (k : ValueType) → unary result (map OfType ks) ≡ Some (signed ks k) → (j : ValueType) × (ks ≡ j ∷ []) × (result j ≡ Some k)
 unary-types result ks k e =
-    let p = unary-parts result (map Known ks) (signed ks k) e in
+    let p = unary-parts result (map OfType ks) (signed ks k) e in
     (p.value_type, p.takes, p.gives)
 
 -- the inputs of a node that unites two, or three
-pub two-types : (result : ValueType → Option ValueType) (ks : List ValueType) (k : ValueType) → uniting 2 result (map Known ks) ≡ Some (signed ks k) → (j : ValueType) × (ks ≡ j ∷ j ∷ []) × (result j ≡ Some k)
+pub two-types : (result : ValueType → Option ValueType) (ks : List ValueType) (k : ValueType) → uniting 2 result (map OfType ks) ≡ Some (signed ks k) → (j : ValueType) × (ks ≡ j ∷ j ∷ []) × (result j ≡ Some k)
 two-types result ks k e =
-    let p = uniting-parts 2 result (map Known ks) (signed ks k) e in
+    let p = uniting-parts 2 result (map OfType ks) (signed ks k) e in
     let l = two-long ks p.many in
-    (p.value_type, p.takes ∙ ap (λ (z : List ValueType). map (λ _. p.value_type) (map Known z)) l.are, p.gives)
+    (p.value_type, p.takes ∙ ap (λ (z : List ValueType). map (λ _. p.value_type) (map OfType z)) l.are, p.gives)
 
-pub three-types : (result : ValueType → Option ValueType) (ks : List ValueType) (k : ValueType) → uniting 3 result (map Known ks) ≡ Some (signed ks k) → (j : ValueType) × (ks ≡ j ∷ j ∷ j ∷ []) × (result j ≡ Some k)
+pub three-types : (result : ValueType → Option ValueType) (ks : List ValueType) (k : ValueType) → uniting 3 result (map OfType ks) ≡ Some (signed ks k) → (j : ValueType) × (ks ≡ j ∷ j ∷ j ∷ []) × (result j ≡ Some k)
 three-types result ks k e =
-    let p = uniting-parts 3 result (map Known ks) (signed ks k) e in
+    let p = uniting-parts 3 result (map OfType ks) (signed ks k) e in
     let l = three-long ks p.many in
-    (p.value_type, p.takes ∙ ap (λ (z : List ValueType). map (λ _. p.value_type) (map Known z)) l.are, p.gives)
+    (p.value_type, p.takes ∙ ap (λ (z : List ValueType). map (λ _. p.value_type) (map OfType z)) l.are, p.gives)
 
 module _ (c : Catalog) where
   pub alias-types : (m : List ℕ) (ks : List ValueType) (k : ValueType) → Takes c (Alias m) ks k → ks ≡ k ∷ []
   unfolding signature
   alias-types m ks k e =
-      let (j, f, g) = unary-types any_type ks k (from_option InvalidOperation (unary any_type (map Known ks)) (signed ks k) e) in
+      let (j, f, g) = unary-types any_type ks k (from_option InvalidOperation (unary any_type (map OfType ks)) (signed ks k) e) in
       let same : j ≡ k = cc in
       f ∙ ap (λ (x : ValueType). x ∷ []) same
 
   pub literal-types : (v : LiteralValue) (ks : List ValueType) (k : ValueType) → Takes c (Literal v) ks k → (ks ≡ []) × (literal_type (literal_rows v) ≡ Some k)
   unfolding signature
   literal-types v ks k e =
-      let (j, f, g) = and_then-parts (literal_type (literal_rows v)) (λ j. leaf j (map Known ks)) (signed ks k)
-      (from_option InvalidOperation (option_and_then (λ j. leaf j (map Known ks)) (literal_type (literal_rows v))) (signed ks k) e) in
-      let (h, i) = leaf-parts j (map Known ks) (signed ks k) g in
+      let (j, f, g) = and_then-parts (literal_type (literal_rows v)) (λ j. leaf j (map OfType ks)) (signed ks k)
+      (from_option InvalidOperation (option_and_then (λ j. leaf j (map OfType ks)) (literal_type (literal_rows v))) (signed ks k) e) in
+      let (h, i) = leaf-parts j (map OfType ks) (signed ks k) g in
       let same : k ≡ j = ap (λ (s : Signature). s.result) i in
       (ap (λ (s : Signature). s.inputs) i, f ∙ ap Some (sym same))
 
   pub binary-types : (o : Operator) (ks : List ValueType) (k : ValueType) → Takes c (Binary o) ks k → (j : ValueType) × (ks ≡ j ∷ j ∷ []) × (group_type (group_of o) j ≡ Some k)
   unfolding signature
-  binary-types o ks k e = two-types (group_type (group_of o)) ks k (from_option InvalidOperation (uniting 2 (group_type (group_of o)) (map Known ks)) (signed ks k) e)
+  binary-types o ks k e = two-types (group_type (group_of o)) ks k (from_option InvalidOperation (uniting 2 (group_type (group_of o)) (map OfType ks)) (signed ks k) e)
 
   pub cast-types : (dtype : DataType) (options : CastOptions) (ks : List ValueType) (k : ValueType) → Takes c (Cast dtype options) ks k → (j : ValueType) × (ks ≡ j ∷ []) × (cast_type (value_type_of dtype) j ≡ Some k)
   unfolding signature
-  cast-types dtype options ks k e = unary-types (cast_type (value_type_of dtype)) ks k (from_option InvalidOperation (unary (cast_type (value_type_of dtype)) (map Known ks)) (signed ks k) e)
+  cast-types dtype options ks k e = unary-types (cast_type (value_type_of dtype)) ks k (from_option InvalidOperation (unary (cast_type (value_type_of dtype)) (map OfType ks)) (signed ks k) e)
 
   pub not-types : (ks : List ValueType) (k : ValueType) → Takes c (Function (function.Boolean Not)) ks k → (ks ≡ k ∷ []) × (is_boolean_or_integer k ≡ true)
   unfolding signature
   not-types ks k e =
-      let (j, f, g) = unary-types number_type ks k (from_option InvalidOperation (unary number_type (map Known ks)) (signed ks k) e) in
+      let (j, f, g) = unary-types number_type ks k (from_option InvalidOperation (unary number_type (map OfType ks)) (signed ks k) e) in
       let (h, i) = given-parts (is_boolean_or_integer j) j k g in
       (f ∙ ap (λ (x : ValueType). x ∷ []) i, subst (λ (x : ValueType). is_boolean_or_integer x ≡ true) i h)
 
   pub is_null-types : (ks : List ValueType) (k : ValueType) → Takes c (Function (function.Boolean IsNull)) ks k → (j : ValueType) × (ks ≡ j ∷ []) × (k ≡ value_type.Boolean)
   unfolding signature
   is_null-types ks k e =
-      let (j, f, g) = unary-types truth_type ks k (from_option InvalidOperation (unary truth_type (map Known ks)) (signed ks k) e) in
+      let (j, f, g) = unary-types boolean_result ks k (from_option InvalidOperation (unary boolean_result (map OfType ks)) (signed ks k) e) in
       (j, f, cc)
 
   pub is_not_null-types : (ks : List ValueType) (k : ValueType) → Takes c (Function (function.Boolean IsNotNull)) ks k → (j : ValueType) × (ks ≡ j ∷ []) × (k ≡ value_type.Boolean)
   unfolding signature
   is_not_null-types ks k e =
-      let (j, f, g) = unary-types truth_type ks k (from_option InvalidOperation (unary truth_type (map Known ks)) (signed ks k) e) in
+      let (j, f, g) = unary-types boolean_result ks k (from_option InvalidOperation (unary boolean_result (map OfType ks)) (signed ks k) e) in
       (j, f, cc)
 
   pub negate-types : (ks : List ValueType) (k : ValueType) → Takes c (Function function.Negate) ks k → (ks ≡ k ∷ []) × (is_integer_value k && not (is_unsigned_value k) ≡ true)
   unfolding signature
   negate-types ks k e =
-      let (j, f, g) = unary-types signed_type ks k (from_option InvalidOperation (unary signed_type (map Known ks)) (signed ks k) e) in
+      let (j, f, g) = unary-types signed_type ks k (from_option InvalidOperation (unary signed_type (map OfType ks)) (signed ks k) e) in
       let (h, i) = given-parts (is_integer_value j && not (is_unsigned_value j)) j k g in
       (f ∙ ap (λ (x : ValueType). x ∷ []) i, subst (λ (x : ValueType). is_integer_value x && not (is_unsigned_value x) ≡ true) i h)
 
   pub fused-types : (o : FusedOperator) (ks : List ValueType) (k : ValueType) → Takes c (Function (function.Fused o)) ks k → (ks ≡ k ∷ k ∷ k ∷ []) × (is_integer_value k ≡ true)
   unfolding signature
   fused-types o ks k e =
-      let (j, f, g) = three-types integer_type ks k (from_option InvalidOperation (uniting 3 integer_type (map Known ks)) (signed ks k) e) in
+      let (j, f, g) = three-types integer_type ks k (from_option InvalidOperation (uniting 3 integer_type (map OfType ks)) (signed ks k) e) in
       let (h, i) = given-parts (is_integer_value j) j k g in
       (f ∙ ap (λ (x : ValueType). x ∷ x ∷ x ∷ []) i, subst (λ (x : ValueType). is_integer_value x ≡ true) i h)
 
 -- two and three types that are one unite to it
-pub united-two : (k : ValueType) → united (Known k ∷ Known k ∷ []) ≡ Some k
+pub united-two : (k : ValueType) → united (OfType k ∷ OfType k ∷ []) ≡ Some k
 unfolding united
 united-two k =
-    let os : List Operand = Known k ∷ Known k ∷ [] in
+    let os : List Operand = OfType k ∷ OfType k ∷ [] in
     ap (λ (a : Option ValueType). widened os (common_of a (Some k))) (common-null k) ∙ ap (widened os) (common-same k)
 
-pub united-three : (k : ValueType) → united (Known k ∷ Known k ∷ Known k ∷ []) ≡ Some k
+pub united-three : (k : ValueType) → united (OfType k ∷ OfType k ∷ OfType k ∷ []) ≡ Some k
 unfolding united
 united-three k =
-    let os : List Operand = Known k ∷ Known k ∷ Known k ∷ [] in
+    let os : List Operand = OfType k ∷ OfType k ∷ OfType k ∷ [] in
     ap (λ (a : Option ValueType). widened os (common_of (common_of a (Some k)) (Some k))) (common-null k)
     ∙ (ap (λ (a : Option ValueType). widened os (common_of a (Some k))) (common-same k) ∙ ap (widened os) (common-same k))
 
@@ -167,7 +167,7 @@ module _ (c : Catalog) where
   pub takes-binary : (o : Operator) (j k : ValueType) → group_type (group_of o) j ≡ Some k → Takes c (Binary o) (j ∷ j ∷ []) k
   unfolding signature
   takes-binary o j k e =
-      let os : List Operand = Known j ∷ Known j ∷ [] in
+      let os : List Operand = OfType j ∷ OfType j ∷ [] in
       ap (λ (u : Option ValueType). or_fault InvalidOperation (option_and_then (of_united (group_type (group_of o)) os) u)) (united-two j)
       ∙ ap (λ (r : Option ValueType). or_fault InvalidOperation (option_map (λ x. signed (j ∷ j ∷ []) x) r)) e
 
@@ -186,28 +186,28 @@ module _ (c : Catalog) where
   pub takes-fused : (o : FusedOperator) (k : ValueType) → is_integer_value k ≡ true → Takes c (Function (function.Fused o)) (k ∷ k ∷ k ∷ []) k
   unfolding signature
   takes-fused o k e =
-      let os : List Operand = Known k ∷ Known k ∷ Known k ∷ [] in
+      let os : List Operand = OfType k ∷ OfType k ∷ OfType k ∷ [] in
       ap (λ (u : Option ValueType). or_fault InvalidOperation (option_and_then (of_united integer_type os) u)) (united-three k)
       ∙ ap (λ (b : Bool). or_fault InvalidOperation (option_map (λ x. signed (k ∷ k ∷ k ∷ []) x) (given b k))) e
 
   pub ternary-types : (ks : List ValueType) (k : ValueType) → Takes c Ternary ks k → ks ≡ value_type.Boolean ∷ k ∷ k ∷ []
   unfolding signature
   ternary-types ks k e =
-      let p = ternary-parts (map Known ks) (signed ks k) (from_option InvalidOperation (ternary_signature (map Known ks)) (signed ks k) e) in
+      let p = ternary-parts (map OfType ks) (signed ks k) (from_option InvalidOperation (ternary_signature (map OfType ks)) (signed ks k) e) in
       go ks p.mask p.branches p.inner p.are p.unites p.whole
     where
       go :
-          (ks : List ValueType) (mask : Operand) (branches : List Operand) (inner : Signature) → map Known ks ≡ mask ∷ branches → uniting 2 any_type branches ≡ Some inner →
+          (ks : List ValueType) (mask : Operand) (branches : List Operand) (inner : Signature) → map OfType ks ≡ mask ∷ branches → uniting 2 any_type branches ≡ Some inner →
           signed ks k ≡ masked inner → ks ≡ value_type.Boolean ∷ k ∷ k ∷ []
       go [] mask branches inner are unites whole = cc
       go (j ∷ js) mask branches inner are unites whole =
-          let rest : map Known js ≡ branches = cc in
+          let rest : map OfType js ≡ branches = cc in
           let first : j ∷ js ≡ value_type.Boolean ∷ inner.inputs = ap (λ (s : Signature). s.inputs) whole in
           let result : k ≡ inner.result = ap (λ (s : Signature). s.result) whole in
           let same : js ≡ inner.inputs = cc in
           let whole' : signed inner.inputs inner.result ≡ signed js k = ap (λ (z : List ValueType). signed z inner.result) (sym same) ∙ ap (signed js) (sym result) in
-          let at_rest : uniting 2 any_type (map Known js) ≡ Some inner = ap (uniting 2 any_type) rest ∙ unites in
-          let u : uniting 2 any_type (map Known js) ≡ Some (signed js k) = at_rest ∙ ap Some whole' in
+          let at_rest : uniting 2 any_type (map OfType js) ≡ Some inner = ap (uniting 2 any_type) rest ∙ unites in
+          let u : uniting 2 any_type (map OfType js) ≡ Some (signed js k) = at_rest ∙ ap Some whole' in
           let (l, f, g) = two-types any_type js k u in
           let is : l ≡ k = cc in
           first ∙ ap (λ (z : List ValueType). value_type.Boolean ∷ z) (sym same ∙ f ∙ ap (λ (z : ValueType). z ∷ z ∷ []) is)

@@ -1,7 +1,7 @@
 -- The typing relation behind the check: the check gives a tree itself exactly where the relation has it.
 use Rattle.std.proofs.Common.{◌≡◌, ◌&&◌, ◌||◌, List, [], ◌∷◌, map, Option, Some, None, Result, Ok, Bool, true, false, cond, ℤ, ℕ, refl, sym, ◌∙◌, ap, subst}
 use Rattle.std.specs.Prelude.{option_and_then, option_map}
-use Rattle.px_base.specs.Exact.{same-decides}
+use Rattle.px_base.proofs.Exact.{same-decides}
 use Rattle.px_base.specs.declared.error.PlanError.{PlanError}
 use Rattle.px_base.specs.declared.error.PlanError.TheVariants.{ColumnNotFound, InvalidOperation}
 use Rattle.px_types.proofs.CommonTypes.{value_type_of-dtype_of}
@@ -20,7 +20,7 @@ use Rattle.px_expr.specs.declared.literal.LiteralValue.TheVariants as lit
 use Rattle.px_expr.specs.Tree.{Node, Alias, Column, Literal, Binary, Cast, Ternary, Function, Tree, tree, Trees, none, more, trees, fold_trees}
 use Rattle.px_meaning.specs.Literals.{literal_of, literal_rows}
 use Rattle.px_expr.specs.Plan.{Catalog}
-use Rattle.px_meaning.specs.Signatures.{Operand, Known, Signature, signature, leaf, unary, any_type, cast_type, truth_type, number_type, signed_type, integer_type, group_type, group_of, function_signature, literal_type, is_type, is_castable, given}
+use Rattle.px_meaning.specs.Signatures.{Operand, OfType, Signature, signature, leaf, unary, any_type, cast_type, boolean_result, number_type, signed_type, integer_type, group_type, group_of, function_signature, literal_type, is_type, is_castable, given}
 use Rattle.px_meaning.specs.Check.{Typed, Found, Checked, Untyped, then_, all_results, or_fault, operand_of, literal, cast_tree, default_literal, coerced, coerced_all, column_type, resolve, made, deferred, with_default_type_or, find, found, with_default_type, HasType}
 use Rattle.px_meaning.proofs.Answers.{from_option, then_-parts, given-parts}
 use Rattle.px_meaning.proofs.Shapes.{SameLength, and_then-parts, unary-parts, unary-long, uniting-long, ternary-long, leaf-long, leaf-parts}
@@ -42,7 +42,7 @@ typed t k = record { tree = t; value_type = k }
 mutual
   -- the tree is checked as it is, with this type: its inputs are so, and the node takes them as they are
   pub data Has (c : Catalog) : Tree → ValueType → Type 0 where
-    has : {n : Node} {us : Trees} {ks : List ValueType} {k : ValueType} → deferred n ≡ None → HaveAll c us ks → resolve c n (map Known ks) ≡ Ok (record { inputs = ks; result = k }) → Has c (tree n us) k
+    has : {n : Node} {us : Trees} {ks : List ValueType} {k : ValueType} → deferred n ≡ None → HaveAll c us ks → resolve c n (map OfType ks) ≡ Ok (record { inputs = ks; result = k }) → Has c (tree n us) k
 
   pub data HaveAll (c : Catalog) : Trees → List ValueType → Type 0 where
     have_none : HaveAll c none []
@@ -71,9 +71,9 @@ module _ (c : Catalog) where
   abbrev pub at_node : Node → List Found → Result Found PlanError
   at_node n inputs = with_default_type_or (deferred n) (then_ (resolve c n (map operand_of inputs)) (λ s. Ok (made n inputs s)))
 
-  pub operands-checked : (us : Trees) (ks : List ValueType) → HaveAll c us ks → map operand_of (checked_all us ks) ≡ map Known ks
+  pub operands-checked : (us : Trees) (ks : List ValueType) → HaveAll c us ks → map operand_of (checked_all us ks) ≡ map OfType ks
   operands-checked _ _ have_none = refl
-  operands-checked _ _ (have_more {u} {us} {k} {ks} h all) = ap (λ (os : List Operand). Known k ∷ os) (operands-checked us ks all)
+  operands-checked _ _ (have_more {u} {us} {k} {ks} h all) = ap (λ (os : List Operand). OfType k ∷ os) (operands-checked us ks all)
 
   pub coerced-checked : (us : Trees) (ks : List ValueType) → HaveAll c us ks → trees (coerced_all ks (checked_all us ks)) ≡ us
   coerced-checked _ _ have_none = refl
@@ -101,8 +101,8 @@ module _ (c : Catalog) where
   Has-HasType t k h = ap (λ (r : Result Found PlanError). then_ r with_default_type) (Has-found t k h)
 
 function-long : (f : FunctionExpr) (os : List Operand) (s : Signature) → function_signature f os ≡ Some s → SameLength s.inputs os
-function-long (function.Boolean IsNull) os s e = unary-long truth_type os s e
-function-long (function.Boolean IsNotNull) os s e = unary-long truth_type os s e
+function-long (function.Boolean IsNull) os s e = unary-long boolean_result os s e
+function-long (function.Boolean IsNotNull) os s e = unary-long boolean_result os s e
 function-long (function.Boolean Not) os s e = unary-long number_type os s e
 function-long function.Negate os s e = unary-long signed_type os s e
 function-long (function.Fused f) os s e = uniting-long 3 integer_type os s e
@@ -233,7 +233,7 @@ module _ (c : Catalog) where
   abbrev KeptInputs : Trees → Type 0
   KeptInputs us =
       (inputs : List Found) (ks : List ValueType) → all_results (fold_trees (find c) us) ≡ Ok inputs → trees (coerced_all ks inputs) ≡ us → SameLength ks inputs →
-      HaveAll c us ks × (map operand_of inputs ≡ map Known ks)
+      HaveAll c us ks × (map operand_of inputs ≡ map OfType ks)
 
   node-Has : (n : Node) (us : Trees) (v : Typed) → KeptInputs us → found c (tree n us) ≡ Ok (Checked v) → v.tree ≡ tree n us → Has c (tree n us) v.value_type
   node-Has n us v kept e same =
@@ -242,7 +242,7 @@ module _ (c : Catalog) where
     where
       over_kept :
           (inputs : List Found) (s : Signature) → deferred n ≡ None → resolve c n (map operand_of inputs) ≡ Ok s → s.result ≡ v.value_type →
-          HaveAll c us s.inputs × (map operand_of inputs ≡ map Known s.inputs) → Has c (tree n us) v.value_type
+          HaveAll c us s.inputs × (map operand_of inputs ≡ map OfType s.inputs) → Has c (tree n us) v.value_type
       over_kept inputs s free r result (all, os) =
           subst (λ (k : ValueType). Has c (tree n us) k) result (has free all (subst (λ (z : List Operand). resolve c n z ≡ Ok s) os r))
 
@@ -290,7 +290,7 @@ module _ (c : Catalog) where
         let is_checked : i ≡ Checked (typed u k) = kept-input c u k i at top in
         let (all, os) = inputs-Have us is ks rest below long in (
           have_more (found-Has u (typed u k) (at ∙ ap Ok is_checked) refl) all,
-          ap (λ (x : Found). operand_of x ∷ map operand_of is) is_checked ∙ ap (λ (xs : List Operand). Known k ∷ xs) os,
+          ap (λ (x : Found). operand_of x ∷ map operand_of is) is_checked ∙ ap (λ (xs : List Operand). OfType k ∷ xs) os,
         )
 
   pub HasType-Has : (t : Tree) (k : ValueType) → HasType c t k → Has c t k

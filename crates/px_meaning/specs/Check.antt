@@ -13,12 +13,12 @@ use Rattle.px_expr.specs.declared.context.Context.TheVariants.{Select, Filter}
 use Rattle.px_expr.specs.declared.literal.LiteralValue.{LiteralValue}
 use Rattle.px_expr.specs.declared.literal.LiteralValue.TheVariants as lit
 use Rattle.px_expr.specs.Tree.{Node, Column, Literal, Cast, Tree, over, fold_tree}
-use Rattle.px_semantics.specs.Columns.{is_boolean}
+use Rattle.px_semantics.specs.Rows.{is_boolean}
 use Rattle.px_meaning.specs.Literals.{literal_of}
 use Rattle.px_meaning.specs.Names.{name}
 use Rattle.px_meaning.specs.Schema.{Schema}
 use Rattle.px_expr.specs.Plan.{Catalog}
-use Rattle.px_meaning.specs.Signatures.{Operand, Known, Free, Signature, signature, leaf, is_type, given, is_castable}
+use Rattle.px_meaning.specs.Signatures.{Operand, OfType, UntypedInteger, Signature, signature, leaf, is_type, given, is_castable}
 
 -- a tree that was checked, with its type
 pub record Typed : Type 0 where
@@ -46,8 +46,8 @@ or_fault e (Some a) = Ok a
 or_fault e None = Err e
 
 abbrev pub operand_of : Found → Operand
-operand_of (Checked t) = Known t.value_type
-operand_of (Untyped z) = Free z
+operand_of (Checked t) = OfType t.value_type
+operand_of (Untyped z) = UntypedInteger z
 
 -- a literal as a tree
 abbrev pub literal : LiteralValue → Tree

@@ -8,11 +8,11 @@ use Rattle.px_types.specs.declared.type_parts.CastOptions.TheVariants.{Strict}
 use Rattle.px_types.specs.declared.value_type.ValueType.{ValueType}
 use Rattle.px_types.specs.declared.function.FunctionExpr.TheVariants as function
 use Rattle.px_semantics.specs.Casts.{any_lost, cast_value}
-use Rattle.px_semantics.specs.Rows.{TypedRows, Contents}
+use Rattle.px_semantics.specs.Rows.{TypedRows, Contents, broadcast_lengths}
 use Rattle.px_types.specs.ValueTypes.{value_type_of}
 use Rattle.px_expr.specs.Kernel.{Kernel}
 use Rattle.px_expr.specs.Tree.{Node, Binary, Cast, Ternary, Function, Tree, tree, Trees, more, fold_trees}
-use Rattle.px_meaning.specs.Mean.{all_of, node_rows, broadcast_length_all}
+use Rattle.px_meaning.specs.Mean.{all_of, node_rows}
 
 -- whether a node joins the lengths of its inputs
 abbrev pub is_joining : Node → Bool
@@ -26,7 +26,7 @@ lengths inputs = map (λ (a : TypedRows). length a.rows) inputs
 
 -- all inputs mean columns, whose lengths do not broadcast
 abbrev pub HasUnevenInputs : List (Option TypedRows) → Type 0
-HasUnevenInputs inputs = (columns : List TypedRows) × (all_of inputs ≡ Some columns) × (broadcast_length_all (lengths columns) ≡ None)
+HasUnevenInputs inputs = (columns : List TypedRows) × (all_of inputs ≡ Some columns) × (broadcast_lengths (lengths columns) ≡ None)
 
 -- the input means a column with a value that the type lacks
 abbrev pub LosesValue : ValueType → List (Option TypedRows) → Type 0

@@ -3,21 +3,21 @@ use Rattle.std.specs.Prelude.{ℤ, pos, nat_abs, Bool, true, false, [], ◌∷�
 use Rattle.px_types.specs.declared.value_type.ValueType.{ValueType}
 use Rattle.px_types.specs.declared.value_type.ValueType.TheVariants as value_type
 use Rattle.px_types.specs.Classes.{is_boolean_or_integer}
-use Rattle.px_semantics.specs.Rows.{Datum, Truth, Integer, Row, TypedRows}
+use Rattle.px_semantics.specs.Rows.{Datum, BooleanValue, IntegerValue, Row, TypedRows}
 use Rattle.px_expr.specs.declared.literal.LiteralValue.{LiteralValue}
 use Rattle.px_expr.specs.declared.literal.LiteralValue.TheVariants as lit
 
 -- the value of a Boolean literal or of one of an integer type, with its type
 abbrev pub scalar_of : LiteralValue → Option (ValueType × Datum)
-scalar_of (lit.Boolean t) = Some (value_type.Boolean, Truth t)
-scalar_of (lit.UInt8 n) = Some (value_type.UInt8, Integer (pos n))
-scalar_of (lit.UInt16 n) = Some (value_type.UInt16, Integer (pos n))
-scalar_of (lit.UInt32 n) = Some (value_type.UInt32, Integer (pos n))
-scalar_of (lit.UInt64 n) = Some (value_type.UInt64, Integer (pos n))
-scalar_of (lit.Int8 z) = Some (value_type.Int8, Integer z)
-scalar_of (lit.Int16 z) = Some (value_type.Int16, Integer z)
-scalar_of (lit.Int32 z) = Some (value_type.Int32, Integer z)
-scalar_of (lit.Int64 z) = Some (value_type.Int64, Integer z)
+scalar_of (lit.Boolean t) = Some (value_type.Boolean, BooleanValue t)
+scalar_of (lit.UInt8 n) = Some (value_type.UInt8, IntegerValue (pos n))
+scalar_of (lit.UInt16 n) = Some (value_type.UInt16, IntegerValue (pos n))
+scalar_of (lit.UInt32 n) = Some (value_type.UInt32, IntegerValue (pos n))
+scalar_of (lit.UInt64 n) = Some (value_type.UInt64, IntegerValue (pos n))
+scalar_of (lit.Int8 z) = Some (value_type.Int8, IntegerValue z)
+scalar_of (lit.Int16 z) = Some (value_type.Int16, IntegerValue z)
+scalar_of (lit.Int32 z) = Some (value_type.Int32, IntegerValue z)
+scalar_of (lit.Int64 z) = Some (value_type.Int64, IntegerValue z)
 scalar_of _ = None
 
 -- one row of a type
@@ -45,8 +45,8 @@ literal_of _ z = lit.Int z
 
 -- the literal of a row of a type
 abbrev pub row_literal : ValueType → Row → LiteralValue
-row_literal k (Some (Truth t)) = lit.Boolean t
-row_literal k (Some (Integer z)) = literal_of k z
+row_literal k (Some (BooleanValue t)) = lit.Boolean t
+row_literal k (Some (IntegerValue z)) = literal_of k z
 row_literal k _ = lit.Null
 
 -- whether the literal stands for one value

@@ -12,7 +12,7 @@ use Rattle.px_semantics.specs.Selections.{select_rows}
 use Rattle.px_semantics.specs.Comparisons.{compare_rows}
 use Rattle.px_semantics.specs.Fused.{fused_rows}
 use Rattle.px_semantics.specs.Logic.{logic_rows, inverse_rows, tested_rows, null_row, value_row}
-use Rattle.px_semantics.specs.Rows.{TypedRows, Contents, broadcast_length, stretch}
+use Rattle.px_semantics.specs.Rows.{TypedRows, Contents, broadcast_lengths, stretch}
 use Rattle.px_expr.specs.declared.context.Context.{Context}
 use Rattle.px_expr.specs.declared.context.Context.TheVariants.{Select, Filter}
 use Rattle.px_expr.specs.Kernel.{Kernel}
@@ -91,12 +91,6 @@ Same Filter (Some a) (Some b) = a.values ≡ b.values
 Same c None None = Unit {0}
 Same c _ _ = ⊥
 
--- the length to which lengths broadcast: that of all that are not one, or one
-abbrev pub broadcast_length_all : List ℕ → Option ℕ
-broadcast_length_all [] = Some 1
-broadcast_length_all (n ∷ []) = Some n
-broadcast_length_all (m ∷ (n ∷ ns)) = option_and_then (broadcast_length m) (broadcast_length_all (n ∷ ns))
-
 -- a mask has no name
 abbrev pub answer_name : Context → List ℕ → List ℕ
 answer_name Select n = n
@@ -107,7 +101,7 @@ abbrev pub as_answer : Context → ℕ → Contents → Contents
 as_answer context n c = named (answer_name context c.name) (record { value_type = c.values.value_type; rows = stretch n c.values.rows })
 
 abbrev pub lined_up : Context → List Contents → Option (List Contents)
-lined_up context columns = option_map (λ n. map (as_answer context n) columns) (broadcast_length_all (map (λ (c : Contents). length c.values.rows) columns))
+lined_up context columns = option_map (λ n. map (as_answer context n) columns) (broadcast_lengths (map (λ (c : Contents). length c.values.rows) columns))
 
 -- the columns that a list of trees means, each broadcast to the common length of all; nothing where a tree
 -- means nothing or the lengths do not broadcast

@@ -12,7 +12,7 @@ use Rattle.px_types.specs.declared.operator.Operator.{Operator}
 use Rattle.px_types.specs.declared.operator.Operator.TheVariants as op
 use Rattle.px_types.specs.declared.value_type.ValueType.{ValueType}
 use Rattle.px_types.specs.declared.value_type.ValueType.TheVariants as value_type
-use Rattle.px_semantics.specs.Rows.{Datum, Truth, Integer, Row}
+use Rattle.px_semantics.specs.Rows.{Datum, BooleanValue, IntegerValue, Row}
 use Rattle.px_types.specs.Integers.{into, IsInteger}
 use Rattle.px_expr.specs.declared.context.Context.{Context}
 use Rattle.px_expr.specs.declared.context.Context.TheVariants.{Filter}
@@ -133,14 +133,14 @@ pub data Rewrites (c : Catalog) (context : Context) : RewriteName → Tree → T
   C6 : {x : Tree} → Rewrites c context named.C6 (binary op.Or x (truth false)) x
   C7 : {v : LiteralValue} → is_scalar v ≡ true → Rewrites c context named.C7 (binary op.Or (literal v) (truth true)) (truth true)
   C8 : {v : LiteralValue} → is_scalar v ≡ true → Rewrites c context named.C8 (binary op.Or (truth true) (literal v)) (truth true)
-  C9 : {v : LiteralValue} {k : ValueType} {z : ℤ} → IsSigned k → IsScalarOf v k (Integer z) → Rewrites c context named.C9 (call function.Negate (literal v)) (folded k (Some (Integer (into k (neg_ℤ z)))))
-  C10 : {o : Operator} {v w : LiteralValue} {k : ValueType} {x y : ℤ} → IsRing o → IsScalarOf v k (Integer x) → IsScalarOf w k (Integer y) →
-      Rewrites c context named.C10 (binary o (literal v) (literal w)) (folded k (arith_row o k (Some (Integer x)) (Some (Integer y))))
-  C11 : {o : Operator} {v w : LiteralValue} {k : ValueType} {x y : ℤ} → IsDivision o → IsScalarOf v k (Integer x) → IsScalarOf w k (Integer y) → y ≢ pos 0 →
-      Rewrites c context named.C11 (binary o (literal v) (literal w)) (folded k (arith_row o k (Some (Integer x)) (Some (Integer y))))
+  C9 : {v : LiteralValue} {k : ValueType} {z : ℤ} → IsSigned k → IsScalarOf v k (IntegerValue z) → Rewrites c context named.C9 (call function.Negate (literal v)) (folded k (Some (IntegerValue (into k (neg_ℤ z)))))
+  C10 : {o : Operator} {v w : LiteralValue} {k : ValueType} {x y : ℤ} → IsRing o → IsScalarOf v k (IntegerValue x) → IsScalarOf w k (IntegerValue y) →
+      Rewrites c context named.C10 (binary o (literal v) (literal w)) (folded k (arith_row o k (Some (IntegerValue x)) (Some (IntegerValue y))))
+  C11 : {o : Operator} {v w : LiteralValue} {k : ValueType} {x y : ℤ} → IsDivision o → IsScalarOf v k (IntegerValue x) → IsScalarOf w k (IntegerValue y) → y ≢ pos 0 →
+      Rewrites c context named.C11 (binary o (literal v) (literal w)) (folded k (arith_row o k (Some (IntegerValue x)) (Some (IntegerValue y))))
   C12 : {o : Operator} {v w : LiteralValue} {k : ValueType} {d e : Datum} → IsComparison o → IsScalarOf v k d → IsScalarOf w k e →
       Rewrites c context named.C12 (binary o (literal v) (literal w)) (folded value_type.Boolean (compare_row o (Some d) (Some e)))
-  C13 : {o : Operator} {s t : Bool} → IsLogical o → Rewrites c context named.C13 (binary o (truth s) (truth t)) (folded value_type.Boolean (boolean_logic_row o (Some (Truth s)) (Some (Truth t))))
+  C13 : {o : Operator} {s t : Bool} → IsLogical o → Rewrites c context named.C13 (binary o (truth s) (truth t)) (folded value_type.Boolean (boolean_logic_row o (Some (BooleanValue s)) (Some (BooleanValue t))))
   C14 : {o : Operator} {a b : Tree} → IsConjunction o → Rewrites c context named.C14 (not_tree (binary o a b)) (binary op.Or (not_tree a) (not_tree b))
   C15 : {o : Operator} {a b : Tree} → IsDisjunction o → Rewrites c context named.C15 (not_tree (binary o a b)) (binary op.And (not_tree a) (not_tree b))
   C16 : {x : Tree} → Rewrites c context named.C16 (not_tree (not_tree x)) x

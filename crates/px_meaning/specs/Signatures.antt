@@ -17,13 +17,14 @@ use Rattle.px_semantics.specs.Rows.{TypedRows}
 use Rattle.px_expr.specs.Kernel.{Kernel}
 use Rattle.px_expr.specs.Tree.{Node, Alias, Literal, Binary, Cast, Ternary, Function}
 use Rattle.px_expr.specs.declared.literal.LiteralValue.{LiteralValue}
-use Rattle.px_semantics.specs.Columns.{is_boolean, is_column}
+use Rattle.px_semantics.specs.Columns.{is_column}
+use Rattle.px_semantics.specs.Rows.{is_boolean}
 use Rattle.px_meaning.specs.Literals.{literal_rows}
 
 -- an input of a known type, or an integer literal that has none yet
 pub data Operand : Type 0 where
-  Known : ValueType → Operand
-  Free : ℤ → Operand
+  OfType : ValueType → Operand
+  UntypedInteger : ℤ → Operand
 
 -- the type wanted of each input, and the type of the node
 pub record Signature : Type 0 where
@@ -40,8 +41,8 @@ given test a = if test then Some a else None
 
 -- the type of an input that no other settles: an integer literal has its default type
 abbrev pub own_type : Operand → Option ValueType
-own_type (Known k) = Some k
-own_type (Free z) = default_type z
+own_type (OfType k) = Some k
+own_type (UntypedInteger z) = default_type z
 
 -- the common type of types that may be missing
 abbrev pub common_of : Option ValueType → Option ValueType → Option ValueType
@@ -54,16 +55,16 @@ common_all a [] = a
 common_all a (b ∷ bs) = common_all (common_of a b) bs
 
 -- the types of the inputs that have one
-abbrev pub known_types : List Operand → List (Option ValueType)
-known_types [] = []
-known_types (Known k ∷ os) = Some k ∷ known_types os
-known_types (Free z ∷ os) = known_types os
+abbrev pub own_types : List Operand → List (Option ValueType)
+own_types [] = []
+own_types (OfType k ∷ os) = Some k ∷ own_types os
+own_types (UntypedInteger z ∷ os) = own_types os
 
 -- the default types of the integer literals that the type does not hold
 abbrev pub wanted_types : ValueType → List Operand → List (Option ValueType)
 wanted_types base [] = []
-wanted_types base (Known k ∷ os) = wanted_types base os
-wanted_types base (Free z ∷ os) = if holds base z then wanted_types base os else default_type z ∷ wanted_types base os
+wanted_types base (OfType k ∷ os) = wanted_types base os
+wanted_types base (UntypedInteger z ∷ os) = if holds base z then wanted_types base os else default_type z ∷ wanted_types base os
 
 abbrev pub widened : List Operand → Option ValueType → Option ValueType
 widened os (Some base) = common_all (Some base) (wanted_types base os)
@@ -72,7 +73,7 @@ widened os None = None
 -- the type to which inputs unite: the common type of those that have one, and of the default types of the
 -- integer literals that this type does not hold. `Null` is neutral.
 unfoldable pub united : List Operand → Option ValueType
-united os = widened os (common_all (Some value_type.Null) (known_types os))
+united os = widened os (common_all (Some value_type.Null) (own_types os))
 
 -- no inputs, and this type
 abbrev pub leaf : ValueType → List Operand → Option Signature
@@ -111,8 +112,8 @@ abbrev pub boolean_type : ValueType → Option ValueType
 boolean_type k = given (is_boolean k) k
 
 -- `Boolean`, of inputs of any type
-abbrev pub truth_type : ValueType → Option ValueType
-truth_type k = Some value_type.Boolean
+abbrev pub boolean_result : ValueType → Option ValueType
+boolean_result k = Some value_type.Boolean
 
 -- a literal whose rows are a column has their type
 abbrev pub literal_type : Option TypedRows → Option ValueType
@@ -155,7 +156,7 @@ group_of op.LogicalOr = Logical
 -- the type of an operator of the group, from the type to which its operands unite
 abbrev pub group_type : Group → ValueType → Option ValueType
 group_type Arithmetic k = integer_type k
-group_type Comparison k = truth_type k
+group_type Comparison k = boolean_result k
 group_type Bitwise k = number_type k
 group_type Logical k = boolean_type k
 group_type Fractional k = None
@@ -186,8 +187,8 @@ ternary_signature (p ∷ os) = if is_mask (own_type p) then option_map masked (u
 ternary_signature [] = None
 
 abbrev pub boolean_signature : BooleanFunction → List Operand → Option Signature
-boolean_signature IsNull os = unary truth_type os
-boolean_signature IsNotNull os = unary truth_type os
+boolean_signature IsNull os = unary boolean_result os
+boolean_signature IsNotNull os = unary boolean_result os
 boolean_signature Not os = unary number_type os
 
 abbrev pub function_signature : FunctionExpr → List Operand → Option Signature

@@ -23,7 +23,7 @@ ghost use Rattle.px_meaning.specs.Names.{name};
 ghost use Rattle.px_meaning.specs.Laws.{KeepsMeaning};
 ghost use Rattle.px_meaning.specs.Rewriting.{StepsTo, Reaches, Pairwise, AllReach, Moves};
 ghost use Rattle.px_meaning.specs.Rewrites.{binary, not_tree, truth, IsRewrite};
-ghost use Rattle.px_meaning.specs.Signatures.{Known, Free, united};
+ghost use Rattle.px_meaning.specs.Signatures.{OfType, UntypedInteger, united};
 ghost use Rattle.px_meaning.specs.Weight.{weight, weights, nodes, nots, node_count, not_depth};
 
 /// A checked tree that means something on a fitting frame means a column of its type: fewer than
@@ -140,8 +140,8 @@ pub fn checked_trees_are_lowerable()
 
 /// `Null` is neutral, and Boolean gives way to every integer type.
 pub fn types_unite()
-    ensures null { united (Known value_type.Null ∷ Known value_type.Int32 ∷ []) ≡ Some value_type.Int32 }
-    ensures boolean { united (Known value_type.Boolean ∷ Known value_type.Int16 ∷ []) ≡ Some value_type.Int16 }
+    ensures null { united (OfType value_type.Null ∷ OfType value_type.Int32 ∷ []) ≡ Some value_type.Int32 }
+    ensures boolean { united (OfType value_type.Boolean ∷ OfType value_type.Int16 ∷ []) ≡ Some value_type.Int16 }
 {}
 
 /// Beside a column of the type UInt8 the integer literal 5 has that type, and 300 takes both to Int32.
@@ -168,8 +168,8 @@ pub fn nots_double_weights()
 /// Integer literals take the common type of the inputs beside them where that holds them, and widen
 /// it by their default types where it does not.
 pub fn literals_unite_with_their_neighbours()
-    ensures wider { united (Known value_type.UInt8 ∷ Free (pos 300) ∷ []) ≡ Some value_type.Int32 }
-    ensures none { united (Known value_type.UInt64 ∷ Free (negsuc 0) ∷ []) ≡ None }
-    ensures each { united (Known value_type.UInt32 ∷ Free (pos 10000000000000000000) ∷ Free (pos 5000000000) ∷ [])
+    ensures wider { united (OfType value_type.UInt8 ∷ UntypedInteger (pos 300) ∷ []) ≡ Some value_type.Int32 }
+    ensures none { united (OfType value_type.UInt64 ∷ UntypedInteger (negsuc 0) ∷ []) ≡ None }
+    ensures each { united (OfType value_type.UInt32 ∷ UntypedInteger (pos 10000000000000000000) ∷ UntypedInteger (pos 5000000000) ∷ [])
         ≡ None }
 {}

@@ -12,7 +12,7 @@ use Rattle.px_expr.specs.declared.context.Context.{Context}
 use Rattle.px_expr.specs.Plan.{Catalog}
 use Rattle.px_expr.specs.Tree.{Tree, tree, more, none, Binary, tree_of}
 use Rattle.px_meaning.specs.Check.{Typed, HasType, check_list, resolve}
-use Rattle.px_meaning.specs.Signatures.{signature, united, Known}
+use Rattle.px_meaning.specs.Signatures.{signature, united, OfType}
 use Rattle.px_meaning.proofs.Lists.{check_list-checked}
 use Rattle.px_meaning.proofs.Typing.{has, have_none, have_more, Has-HasType, HasType-Has}
 use Rattle.px_check.specs.CheckedTree.{CheckedTree, typed_of}
@@ -34,7 +34,7 @@ mask_type c context ts (x ∷ hs) h e at mask =
     subst (λ (k : ValueType). HasType c (tree_of h.tree) k) mask (subst (λ (z : CheckedTree). HasType c (tree_of z.tree) z.value_type) same has_type)
 
 -- an `And` takes two Boolean inputs as they are
-takes_two : (c : Catalog) → resolve c (Binary op.And) (map Known (Boolean ∷ Boolean ∷ [])) ≡ Ok (record { inputs = Boolean ∷ Boolean ∷ []; result = Boolean })
+takes_two : (c : Catalog) → resolve c (Binary op.And) (map OfType (Boolean ∷ Boolean ∷ [])) ≡ Ok (record { inputs = Boolean ∷ Boolean ∷ []; result = Boolean })
 unfolding signature united common common_dtype out-DataType denote.Hole.Carrier.out
 takes_two c = refl
 

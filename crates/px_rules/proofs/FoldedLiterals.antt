@@ -7,7 +7,7 @@ use Rattle.std.specs.declared.cmp.Ordering.{Ordering}
 use Rattle.px_semantics.specs.Arithmetic.{arith_row, lift_nonzero, floor_quotient, floor_remainder, is_zero}
 use Rattle.px_semantics.specs.Comparisons.{IsComparison}
 use Rattle.px_types.specs.Integers.{into}
-use Rattle.px_semantics.specs.Rows.{Datum, Truth, Integer, Row}
+use Rattle.px_semantics.specs.Rows.{Datum, BooleanValue, IntegerValue, Row}
 use Rattle.px_types.specs.declared.function.FunctionExpr.TheVariants as function
 use Rattle.px_types.specs.declared.operator.Operator.{Operator}
 use Rattle.px_types.specs.declared.operator.Operator.TheVariants as op
@@ -30,15 +30,15 @@ use Rattle.px_rules.proofs.Parts.{RewriteIn}
 
 -- the literals that have a type and a value
 data IsScalarLiteral : LiteralValue → ValueType → Datum → Type 0 where
-  boolean_ : {t : Bool} → IsScalarLiteral (lit.Boolean t) value_type.Boolean (Truth t)
-  u8 : {n : ℕ} → IsScalarLiteral (lit.UInt8 n) value_type.UInt8 (Integer (pos n))
-  u16 : {n : ℕ} → IsScalarLiteral (lit.UInt16 n) value_type.UInt16 (Integer (pos n))
-  u32 : {n : ℕ} → IsScalarLiteral (lit.UInt32 n) value_type.UInt32 (Integer (pos n))
-  u64 : {n : ℕ} → IsScalarLiteral (lit.UInt64 n) value_type.UInt64 (Integer (pos n))
-  i8 : {z : ℤ} → IsScalarLiteral (lit.Int8 z) value_type.Int8 (Integer z)
-  i16 : {z : ℤ} → IsScalarLiteral (lit.Int16 z) value_type.Int16 (Integer z)
-  i32 : {z : ℤ} → IsScalarLiteral (lit.Int32 z) value_type.Int32 (Integer z)
-  i64 : {z : ℤ} → IsScalarLiteral (lit.Int64 z) value_type.Int64 (Integer z)
+  boolean_ : {t : Bool} → IsScalarLiteral (lit.Boolean t) value_type.Boolean (BooleanValue t)
+  u8 : {n : ℕ} → IsScalarLiteral (lit.UInt8 n) value_type.UInt8 (IntegerValue (pos n))
+  u16 : {n : ℕ} → IsScalarLiteral (lit.UInt16 n) value_type.UInt16 (IntegerValue (pos n))
+  u32 : {n : ℕ} → IsScalarLiteral (lit.UInt32 n) value_type.UInt32 (IntegerValue (pos n))
+  u64 : {n : ℕ} → IsScalarLiteral (lit.UInt64 n) value_type.UInt64 (IntegerValue (pos n))
+  i8 : {z : ℤ} → IsScalarLiteral (lit.Int8 z) value_type.Int8 (IntegerValue z)
+  i16 : {z : ℤ} → IsScalarLiteral (lit.Int16 z) value_type.Int16 (IntegerValue z)
+  i32 : {z : ℤ} → IsScalarLiteral (lit.Int32 z) value_type.Int32 (IntegerValue z)
+  i64 : {z : ℤ} → IsScalarLiteral (lit.Int64 z) value_type.Int64 (IntegerValue z)
 
 moved : (v : LiteralValue) (k l : ValueType) (d e : Datum) → ◌≡◌ {A = Option (ValueType × Datum)} (Some (l, e)) (Some (k, d)) → IsScalarLiteral v l e → IsScalarLiteral v k d
 moved v k l d e same is =
@@ -46,20 +46,20 @@ moved v k l d e same is =
     subst (λ (p : ValueType × Datum). IsScalarLiteral v p.0 p.1) pair is
 
 scalar_literal : (v : LiteralValue) (k : ValueType) (d : Datum) → IsScalarOf v k d → IsScalarLiteral v k d
-scalar_literal (lit.Boolean t) k d e = moved (lit.Boolean t) k value_type.Boolean d (Truth t) e boolean_
-scalar_literal (lit.UInt8 n) k d e = moved (lit.UInt8 n) k value_type.UInt8 d (Integer (pos n)) e u8
-scalar_literal (lit.UInt16 n) k d e = moved (lit.UInt16 n) k value_type.UInt16 d (Integer (pos n)) e u16
-scalar_literal (lit.UInt32 n) k d e = moved (lit.UInt32 n) k value_type.UInt32 d (Integer (pos n)) e u32
-scalar_literal (lit.UInt64 n) k d e = moved (lit.UInt64 n) k value_type.UInt64 d (Integer (pos n)) e u64
-scalar_literal (lit.Int8 z) k d e = moved (lit.Int8 z) k value_type.Int8 d (Integer z) e i8
-scalar_literal (lit.Int16 z) k d e = moved (lit.Int16 z) k value_type.Int16 d (Integer z) e i16
-scalar_literal (lit.Int32 z) k d e = moved (lit.Int32 z) k value_type.Int32 d (Integer z) e i32
-scalar_literal (lit.Int64 z) k d e = moved (lit.Int64 z) k value_type.Int64 d (Integer z) e i64
+scalar_literal (lit.Boolean t) k d e = moved (lit.Boolean t) k value_type.Boolean d (BooleanValue t) e boolean_
+scalar_literal (lit.UInt8 n) k d e = moved (lit.UInt8 n) k value_type.UInt8 d (IntegerValue (pos n)) e u8
+scalar_literal (lit.UInt16 n) k d e = moved (lit.UInt16 n) k value_type.UInt16 d (IntegerValue (pos n)) e u16
+scalar_literal (lit.UInt32 n) k d e = moved (lit.UInt32 n) k value_type.UInt32 d (IntegerValue (pos n)) e u32
+scalar_literal (lit.UInt64 n) k d e = moved (lit.UInt64 n) k value_type.UInt64 d (IntegerValue (pos n)) e u64
+scalar_literal (lit.Int8 z) k d e = moved (lit.Int8 z) k value_type.Int8 d (IntegerValue z) e i8
+scalar_literal (lit.Int16 z) k d e = moved (lit.Int16 z) k value_type.Int16 d (IntegerValue z) e i16
+scalar_literal (lit.Int32 z) k d e = moved (lit.Int32 z) k value_type.Int32 d (IntegerValue z) e i32
+scalar_literal (lit.Int64 z) k d e = moved (lit.Int64 z) k value_type.Int64 d (IntegerValue z) e i64
 scalar_literal _ k d e = cc
 
 abbrev folded_data : Operator → ValueType → Datum → Datum → Option LiteralValue
-folded_data o k (Truth a) (Truth b) = option_map lit.Boolean (folded_booleans o a b)
-folded_data o k (Integer x) (Integer y) = folded_numbers o k x y
+folded_data o k (BooleanValue a) (BooleanValue b) = option_map lit.Boolean (folded_booleans o a b)
+folded_data o k (IntegerValue x) (IntegerValue y) = folded_numbers o k x y
 folded_data o k _ _ = None
 
 pair_folds : (o : Operator) (v w : LiteralValue) (k : ValueType) (d e : Datum) → IsScalarLiteral v k d → IsScalarLiteral w k e → folded_literals o v w ≡ folded_data o k d e
@@ -196,31 +196,31 @@ module _ (c : Catalog) (context : Context) where
   to : (o : Operator) (v w r s : LiteralValue) → Some s ≡ Some r → RewriteIn literal_folds c context (binary o (literal v) (literal w)) (literal s) → RewriteIn literal_folds c context (binary o (literal v) (literal w)) (literal r)
   to o v w r s e l = subst (λ (z : LiteralValue). RewriteIn literal_folds c context (binary o (literal v) (literal w)) (literal z)) (same_Some s r e) l
 
-  quotient_row : (k : ValueType) (x y : ℤ) → is_zero y ≡ false → lift_nonzero (λ a b. into k (floor_quotient a b)) (Some (Integer x)) (Some (Integer y)) ≡ Some (Integer (quotient_of k x y))
+  quotient_row : (k : ValueType) (x y : ℤ) → is_zero y ≡ false → lift_nonzero (λ a b. into k (floor_quotient a b)) (Some (IntegerValue x)) (Some (IntegerValue y)) ≡ Some (IntegerValue (quotient_of k x y))
   quotient_row k x y e = rw (e) refl
 
-  remainder_row : (k : ValueType) (x y : ℤ) → is_zero y ≡ false → lift_nonzero floor_remainder (Some (Integer x)) (Some (Integer y)) ≡ Some (Integer (remainder_of x y))
+  remainder_row : (k : ValueType) (x y : ℤ) → is_zero y ≡ false → lift_nonzero floor_remainder (Some (IntegerValue x)) (Some (IntegerValue y)) ≡ Some (IntegerValue (remainder_of x y))
   remainder_row k x y e = rw (e) refl
 
   no_zero : (y : ℤ) → is_zero y ≡ false → y ≢ pos 0
   no_zero y e h = let z : is_zero y ≡ true = ap is_zero h in cc
 
   division_rewrite :
-      (o : Operator) (v w r : LiteralValue) (k : ValueType) (x y z : ℤ) → IsScalarOf v k (Integer x) → IsScalarOf w k (Integer y) → IsDivision o →
+      (o : Operator) (v w r : LiteralValue) (k : ValueType) (x y z : ℤ) → IsScalarOf v k (IntegerValue x) → IsScalarOf w k (IntegerValue y) → IsDivision o →
       calculated o k x y ≡ cond (is_zero y) None (Some z) → folded_numbers o k x y ≡ Some r → (b : Bool) → is_zero y ≡ b →
-      (is_zero y ≡ false → arith_row o k (Some (Integer x)) (Some (Integer y)) ≡ Some (Integer z)) → RewriteIn literal_folds c context (binary o (literal v) (literal w)) (literal r)
+      (is_zero y ≡ false → arith_row o k (Some (IntegerValue x)) (Some (IntegerValue y)) ≡ Some (IntegerValue z)) → RewriteIn literal_folds c context (binary o (literal v) (literal w)) (literal r)
   division_rewrite o v w r k x y z s t i is e true zero_ row =
       let none_ : calculated o k x y ≡ None = is ∙ ap (λ (q : Bool). cond q None (Some z)) zero_ in
       absurd (no_comparison o i (int_cmp x y) (int_cmp y x) k r (subst (λ (q : Option ℤ). or_boolean k q (compared o (int_cmp x y) (int_cmp y x)) ≡ Some r) none_ e))
   division_rewrite o v w r k x y z s t i is e false nonzero_ row =
       let some : calculated o k x y ≡ Some z = is ∙ ap (λ (q : Bool). cond q None (Some z)) nonzero_ in
       let given : or_boolean k (Some z) (compared o (int_cmp x y) (int_cmp y x)) ≡ Some r = subst (λ (q : Option ℤ). or_boolean k q (compared o (int_cmp x y) (int_cmp y x)) ≡ Some r) some e in
-      let rewritten : RewriteIn literal_folds c context (binary o (literal v) (literal w)) (folded k (arith_row o k (Some (Integer x)) (Some (Integer y)))) =
+      let rewritten : RewriteIn literal_folds c context (binary o (literal v) (literal w)) (folded k (arith_row o k (Some (IntegerValue x)) (Some (IntegerValue y)))) =
       record { by = named.C11; rewrites = C11 {o = o} {v = v} {w = w} {k = k} {x = x} {y = y} i s t (no_zero y nonzero_); of_group = refl } in
       to o v w r (literal_of k z) given (subst (λ (q : Row). RewriteIn literal_folds c context (binary o (literal v) (literal w)) (folded k q)) (row nonzero_) rewritten)
 
   numbers_rewrite :
-      (o : Operator) (v w r : LiteralValue) (k : ValueType) (x y : ℤ) → IsScalarOf v k (Integer x) → IsScalarOf w k (Integer y) → folded_numbers o k x y ≡ Some r →
+      (o : Operator) (v w r : LiteralValue) (k : ValueType) (x y : ℤ) → IsScalarOf v k (IntegerValue x) → IsScalarOf w k (IntegerValue y) → folded_numbers o k x y ≡ Some r →
       RewriteIn literal_folds c context (binary o (literal v) (literal w)) (literal r)
   numbers_rewrite op.Plus v w r k x y s t e = to op.Plus v w r _ e (record { by = named.C10; rewrites = C10 {o = op.Plus} {v = v} {w = w} {k = k} {x = x} {y = y} tt s t; of_group = refl })
   numbers_rewrite op.Minus v w r k x y s t e = to op.Minus v w r _ e (record { by = named.C10; rewrites = C10 {o = op.Minus} {v = v} {w = w} {k = k} {x = x} {y = y} tt s t; of_group = refl })
@@ -228,26 +228,26 @@ module _ (c : Catalog) (context : Context) where
   numbers_rewrite op.Divide v w r k x y s t e = division_rewrite op.Divide v w r k x y (quotient_of k x y) s t tt refl e (is_zero y) refl (quotient_row k x y)
   numbers_rewrite op.FloorDivide v w r k x y s t e = division_rewrite op.FloorDivide v w r k x y (quotient_of k x y) s t tt refl e (is_zero y) refl (quotient_row k x y)
   numbers_rewrite op.Modulus v w r k x y s t e = division_rewrite op.Modulus v w r k x y (remainder_of x y) s t tt refl e (is_zero y) refl (remainder_row k x y)
-  numbers_rewrite op.Eq v w r k x y s t e = to op.Eq v w r _ e (record { by = named.C12; rewrites = C12 {o = op.Eq} {v = v} {w = w} {k = k} {d = Integer x} {e = Integer y} tt s t; of_group = refl })
-  numbers_rewrite op.NotEq v w r k x y s t e = to op.NotEq v w r _ e (record { by = named.C12; rewrites = C12 {o = op.NotEq} {v = v} {w = w} {k = k} {d = Integer x} {e = Integer y} tt s t; of_group = refl })
-  numbers_rewrite op.Lt v w r k x y s t e = to op.Lt v w r _ e (record { by = named.C12; rewrites = C12 {o = op.Lt} {v = v} {w = w} {k = k} {d = Integer x} {e = Integer y} tt s t; of_group = refl })
-  numbers_rewrite op.LtEq v w r k x y s t e = to op.LtEq v w r _ e (record { by = named.C12; rewrites = C12 {o = op.LtEq} {v = v} {w = w} {k = k} {d = Integer x} {e = Integer y} tt s t; of_group = refl })
-  numbers_rewrite op.Gt v w r k x y s t e = to op.Gt v w r _ e (record { by = named.C12; rewrites = C12 {o = op.Gt} {v = v} {w = w} {k = k} {d = Integer x} {e = Integer y} tt s t; of_group = refl })
-  numbers_rewrite op.GtEq v w r k x y s t e = to op.GtEq v w r _ e (record { by = named.C12; rewrites = C12 {o = op.GtEq} {v = v} {w = w} {k = k} {d = Integer x} {e = Integer y} tt s t; of_group = refl })
-  numbers_rewrite op.EqValidity v w r k x y s t e = to op.EqValidity v w r _ e (record { by = named.C12; rewrites = C12 {o = op.EqValidity} {v = v} {w = w} {k = k} {d = Integer x} {e = Integer y} tt s t; of_group = refl })
-  numbers_rewrite op.NotEqValidity v w r k x y s t e = to op.NotEqValidity v w r _ e (record { by = named.C12; rewrites = C12 {o = op.NotEqValidity} {v = v} {w = w} {k = k} {d = Integer x} {e = Integer y} tt s t; of_group = refl })
+  numbers_rewrite op.Eq v w r k x y s t e = to op.Eq v w r _ e (record { by = named.C12; rewrites = C12 {o = op.Eq} {v = v} {w = w} {k = k} {d = IntegerValue x} {e = IntegerValue y} tt s t; of_group = refl })
+  numbers_rewrite op.NotEq v w r k x y s t e = to op.NotEq v w r _ e (record { by = named.C12; rewrites = C12 {o = op.NotEq} {v = v} {w = w} {k = k} {d = IntegerValue x} {e = IntegerValue y} tt s t; of_group = refl })
+  numbers_rewrite op.Lt v w r k x y s t e = to op.Lt v w r _ e (record { by = named.C12; rewrites = C12 {o = op.Lt} {v = v} {w = w} {k = k} {d = IntegerValue x} {e = IntegerValue y} tt s t; of_group = refl })
+  numbers_rewrite op.LtEq v w r k x y s t e = to op.LtEq v w r _ e (record { by = named.C12; rewrites = C12 {o = op.LtEq} {v = v} {w = w} {k = k} {d = IntegerValue x} {e = IntegerValue y} tt s t; of_group = refl })
+  numbers_rewrite op.Gt v w r k x y s t e = to op.Gt v w r _ e (record { by = named.C12; rewrites = C12 {o = op.Gt} {v = v} {w = w} {k = k} {d = IntegerValue x} {e = IntegerValue y} tt s t; of_group = refl })
+  numbers_rewrite op.GtEq v w r k x y s t e = to op.GtEq v w r _ e (record { by = named.C12; rewrites = C12 {o = op.GtEq} {v = v} {w = w} {k = k} {d = IntegerValue x} {e = IntegerValue y} tt s t; of_group = refl })
+  numbers_rewrite op.EqValidity v w r k x y s t e = to op.EqValidity v w r _ e (record { by = named.C12; rewrites = C12 {o = op.EqValidity} {v = v} {w = w} {k = k} {d = IntegerValue x} {e = IntegerValue y} tt s t; of_group = refl })
+  numbers_rewrite op.NotEqValidity v w r k x y s t e = to op.NotEqValidity v w r _ e (record { by = named.C12; rewrites = C12 {o = op.NotEqValidity} {v = v} {w = w} {k = k} {d = IntegerValue x} {e = IntegerValue y} tt s t; of_group = refl })
   numbers_rewrite _ v w r k x y s t e = cc
 
   booleans_rewrite :
       (o : Operator) (a b : Bool) (r : LiteralValue) → option_map lit.Boolean (folded_booleans o a b) ≡ Some r → RewriteIn literal_folds c context (binary o (truth a) (truth b)) (literal r)
-  booleans_rewrite op.Eq a b r e = to op.Eq (lit.Boolean a) (lit.Boolean b) r _ e (record { by = named.C12; rewrites = C12 {o = op.Eq} {v = lit.Boolean a} {w = lit.Boolean b} {k = value_type.Boolean} {d = Truth a} {e = Truth b} tt refl refl; of_group = refl })
-  booleans_rewrite op.NotEq a b r e = to op.NotEq (lit.Boolean a) (lit.Boolean b) r _ e (record { by = named.C12; rewrites = C12 {o = op.NotEq} {v = lit.Boolean a} {w = lit.Boolean b} {k = value_type.Boolean} {d = Truth a} {e = Truth b} tt refl refl; of_group = refl })
-  booleans_rewrite op.Lt a b r e = to op.Lt (lit.Boolean a) (lit.Boolean b) r _ e (record { by = named.C12; rewrites = C12 {o = op.Lt} {v = lit.Boolean a} {w = lit.Boolean b} {k = value_type.Boolean} {d = Truth a} {e = Truth b} tt refl refl; of_group = refl })
-  booleans_rewrite op.LtEq a b r e = to op.LtEq (lit.Boolean a) (lit.Boolean b) r _ e (record { by = named.C12; rewrites = C12 {o = op.LtEq} {v = lit.Boolean a} {w = lit.Boolean b} {k = value_type.Boolean} {d = Truth a} {e = Truth b} tt refl refl; of_group = refl })
-  booleans_rewrite op.Gt a b r e = to op.Gt (lit.Boolean a) (lit.Boolean b) r _ e (record { by = named.C12; rewrites = C12 {o = op.Gt} {v = lit.Boolean a} {w = lit.Boolean b} {k = value_type.Boolean} {d = Truth a} {e = Truth b} tt refl refl; of_group = refl })
-  booleans_rewrite op.GtEq a b r e = to op.GtEq (lit.Boolean a) (lit.Boolean b) r _ e (record { by = named.C12; rewrites = C12 {o = op.GtEq} {v = lit.Boolean a} {w = lit.Boolean b} {k = value_type.Boolean} {d = Truth a} {e = Truth b} tt refl refl; of_group = refl })
-  booleans_rewrite op.EqValidity a b r e = to op.EqValidity (lit.Boolean a) (lit.Boolean b) r _ e (record { by = named.C12; rewrites = C12 {o = op.EqValidity} {v = lit.Boolean a} {w = lit.Boolean b} {k = value_type.Boolean} {d = Truth a} {e = Truth b} tt refl refl; of_group = refl })
-  booleans_rewrite op.NotEqValidity a b r e = to op.NotEqValidity (lit.Boolean a) (lit.Boolean b) r _ e (record { by = named.C12; rewrites = C12 {o = op.NotEqValidity} {v = lit.Boolean a} {w = lit.Boolean b} {k = value_type.Boolean} {d = Truth a} {e = Truth b} tt refl refl; of_group = refl })
+  booleans_rewrite op.Eq a b r e = to op.Eq (lit.Boolean a) (lit.Boolean b) r _ e (record { by = named.C12; rewrites = C12 {o = op.Eq} {v = lit.Boolean a} {w = lit.Boolean b} {k = value_type.Boolean} {d = BooleanValue a} {e = BooleanValue b} tt refl refl; of_group = refl })
+  booleans_rewrite op.NotEq a b r e = to op.NotEq (lit.Boolean a) (lit.Boolean b) r _ e (record { by = named.C12; rewrites = C12 {o = op.NotEq} {v = lit.Boolean a} {w = lit.Boolean b} {k = value_type.Boolean} {d = BooleanValue a} {e = BooleanValue b} tt refl refl; of_group = refl })
+  booleans_rewrite op.Lt a b r e = to op.Lt (lit.Boolean a) (lit.Boolean b) r _ e (record { by = named.C12; rewrites = C12 {o = op.Lt} {v = lit.Boolean a} {w = lit.Boolean b} {k = value_type.Boolean} {d = BooleanValue a} {e = BooleanValue b} tt refl refl; of_group = refl })
+  booleans_rewrite op.LtEq a b r e = to op.LtEq (lit.Boolean a) (lit.Boolean b) r _ e (record { by = named.C12; rewrites = C12 {o = op.LtEq} {v = lit.Boolean a} {w = lit.Boolean b} {k = value_type.Boolean} {d = BooleanValue a} {e = BooleanValue b} tt refl refl; of_group = refl })
+  booleans_rewrite op.Gt a b r e = to op.Gt (lit.Boolean a) (lit.Boolean b) r _ e (record { by = named.C12; rewrites = C12 {o = op.Gt} {v = lit.Boolean a} {w = lit.Boolean b} {k = value_type.Boolean} {d = BooleanValue a} {e = BooleanValue b} tt refl refl; of_group = refl })
+  booleans_rewrite op.GtEq a b r e = to op.GtEq (lit.Boolean a) (lit.Boolean b) r _ e (record { by = named.C12; rewrites = C12 {o = op.GtEq} {v = lit.Boolean a} {w = lit.Boolean b} {k = value_type.Boolean} {d = BooleanValue a} {e = BooleanValue b} tt refl refl; of_group = refl })
+  booleans_rewrite op.EqValidity a b r e = to op.EqValidity (lit.Boolean a) (lit.Boolean b) r _ e (record { by = named.C12; rewrites = C12 {o = op.EqValidity} {v = lit.Boolean a} {w = lit.Boolean b} {k = value_type.Boolean} {d = BooleanValue a} {e = BooleanValue b} tt refl refl; of_group = refl })
+  booleans_rewrite op.NotEqValidity a b r e = to op.NotEqValidity (lit.Boolean a) (lit.Boolean b) r _ e (record { by = named.C12; rewrites = C12 {o = op.NotEqValidity} {v = lit.Boolean a} {w = lit.Boolean b} {k = value_type.Boolean} {d = BooleanValue a} {e = BooleanValue b} tt refl refl; of_group = refl })
   booleans_rewrite op.And true true r e = to op.And (lit.Boolean true) (lit.Boolean true) r _ e (record { by = named.C13; rewrites = C13 {o = op.And} {s = true} {t = true} tt; of_group = refl })
   booleans_rewrite op.And true false r e = to op.And (lit.Boolean true) (lit.Boolean false) r _ e (record { by = named.C13; rewrites = C13 {o = op.And} {s = true} {t = false} tt; of_group = refl })
   booleans_rewrite op.And false true r e = to op.And (lit.Boolean false) (lit.Boolean true) r _ e (record { by = named.C13; rewrites = C13 {o = op.And} {s = false} {t = true} tt; of_group = refl })
@@ -318,7 +318,7 @@ negate_left c context _ _ _ (C5 p) e = cc
 negate_left c context _ _ _ C6 e = cc
 negate_left c context _ _ _ (C7 p) e = cc
 negate_left c context _ _ _ (C8 p) e = cc
-negate_left c context _ _ _ (C9 {v} {k} {z} i s) e = record { v = v; whole = refl; negates_to = λ n. negates v k (Integer z) i (scalar_literal v k (Integer z) s) n }
+negate_left c context _ _ _ (C9 {v} {k} {z} i s) e = record { v = v; whole = refl; negates_to = λ n. negates v k (IntegerValue z) i (scalar_literal v k (IntegerValue z) s) n }
 negate_left c context _ _ _ (C10 p q r) e = cc
 negate_left c context _ _ _ (C11 p q r s) e = cc
 negate_left c context _ _ _ (C12 p q r) e = cc

@@ -66,10 +66,10 @@ module _ (Rewrite : Tree → Tree → Type 0) (less : (t t' : Tree) → Rewrite 
       }
 
 -- where the rule answered nothing, no pair has the place's tree on its left
-pub settled :
+pub normal_place :
     (c : Catalog) (Rewrite : Tree → Tree → Type 0) (n : ℕ) (cur mid : List AExpr) →
     IsCheckedAt c cur n → IsGrown cur mid → Offers Rewrite cur mid n None → (t : Tree) → Denotes mid n t → HasNoRewrite Rewrite t
-settled c Rewrite n cur mid (u, d, ok) g nothing t dt =
+normal_place c Rewrite n cur mid (u, d, ok) g nothing t dt =
     let same : u ≡ t = denotes_one mid n u t (grown_denotes cur mid n u g d) dt in
     subst (λ (z : Tree). HasNoRewrite Rewrite z) same (nothing u d)
 

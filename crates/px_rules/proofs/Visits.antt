@@ -1,4 +1,4 @@
--- The visit of a place: it is settled, and then its inputs are visited from left to right.
+-- The visit of a place: it is normal_place, and then its inputs are visited from left to right.
 use Rattle.std.proofs.Common.{◌≡◌, ℕ, zero, suc, ◌+◌, ◌≤◌, ◌<◌, List, [], ◌∷◌, length, Some, refl, sym, ◌∙◌, subst, arith, inl, inr}
 use Rattle.std.specs.List.{slice_get}
 use Rattle.std.proofs.lemmas.Option.{same_Some, slice_get_within}
@@ -24,7 +24,7 @@ use Rattle.px_arena.proofs.Measure.{weight_at, weight_at_is}
 pub record IsVisited (Rewrite : Tree → Tree → Type 0) (n : ℕ) (old cur : List AExpr) (x : AExpr) (i r : ℕ) : Type 0 where
   pub node : slice_get cur n ≡ Some x
   pub runs : Runs Rewrite n old cur r
-  pub settled : r ≡ 0 → (t : Tree) → Denotes cur n t → HasNoRewrite Rewrite t
+  pub normal_place : r ≡ 0 → (t : Tree) → Denotes cur n t → HasNoRewrite Rewrite t
   pub normal : r ≡ 0 → (k m : ℕ) → k < i → slice_get (inputs_of x) k ≡ Some m → (u : Tree) → Denotes cur m u → IsNormal Rewrite u
 
 pub is_in_at : (ns : List ℕ) (k m : ℕ) → slice_get ns k ≡ Some m → IsIn m ns
@@ -94,10 +94,10 @@ module _ (c : Catalog) (context : Context) (Rewrite : Tree → Tree → Type 0) 
       record {
         node = node;
         runs = runs_join Rewrite n old cur new r q (r + q) v.runs lifted refl;
-        settled = λ none w dw.
+        normal_place = λ none w dw.
             let g : IsGrown cur new = run_of_none Rewrite m cur new q run (omega arith) in
             let same : t ≡ w = denotes_one new n t w (grown_denotes cur new n t g dt) dw in
-            subst (λ (z : Tree). HasNoRewrite Rewrite z) same (v.settled (omega arith) t dt);
+            subst (λ (z : Tree). HasNoRewrite Rewrite z) same (v.normal_place (omega arith) t dt);
         normal = λ none k o lt at' u du.
             let g : IsGrown cur new = run_of_none Rewrite m cur new q run (omega arith) in
             elim (cases_eq k i) [
@@ -118,7 +118,7 @@ module _ (c : Catalog) (context : Context) (Rewrite : Tree → Tree → Type 0) 
   visited_all n old cur x i r v le zero_runs (tree k us) (y, at', root, ins) =
       let e : y ≡ x = same_Some y x (sym at' ∙ v.node) in
       let ins2 : DenoteAll cur (inputs_of x) us = subst (λ (z : AExpr). DenoteAll cur (inputs_of z) us) e ins in (
-        v.settled zero_runs (tree k us) (y, at', root, ins),
+        v.normal_place zero_runs (tree k us) (y, at', root, ins),
         normal_all Rewrite cur (inputs_of x) us ins2
             (λ j m at u du. let lt = slice_get_within (inputs_of x) j m at in v.normal zero_runs j m (omega arith) at u du),
       )

@@ -26,7 +26,7 @@ fn settle<R: OptimizationRule, L: Ledger>(
     ensures runs { (r : ℕ) × (steps.new ≡ steps.old + r)
         × Runs (R.is_rewrite (⟦<PlanContext<'static> as Plan>⟧.catalog plan.now) plan.now.context) node.0 arena.old arena.new r }
     ensures count { IfOk result (λ n. n ≡ min (steps.new - steps.old) (2 ^ 64 - 1)) }
-    ensures settled { OnOk result ((t : Tree) → Denotes arena.new node.0 t
+    ensures normal { OnOk result ((t : Tree) → Denotes arena.new node.0 t
         → HasNoRewrite (R.is_rewrite (⟦<PlanContext<'static> as Plan>⟧.catalog plan.now) plan.now.context) t) }
     ensures err { OnErr result (result ≡ Err PlanError.OutOfMemory) }
 {

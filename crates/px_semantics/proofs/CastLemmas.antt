@@ -8,7 +8,7 @@ use Rattle.std.proofs.lemmas.Int.{ints, int_wrap_fits}
 use Rattle.px_semantics.specs.Casts.{in_type, as_integer, cast_value, cast_row, is_lost, any_lost, cast_list, IsScalar, HasCast}
 use Rattle.px_types.specs.Integers.{into, InRange, IsInteger}
 use Rattle.px_types.specs.ValueTypes.{holds, dtype_of, value_type_of}
-use Rattle.px_semantics.specs.Rows.{Datum, Truth, Text, Integer, Row, IsRowOf, IsBoolean, IsString}
+use Rattle.px_semantics.specs.Rows.{Datum, BooleanValue, StringValue, IntegerValue, Row, IsRowOf, IsBoolean, IsString}
 use Rattle.px_types.specs.declared.dtype.DataType.{out-DataType}
 use Rattle.px_types.specs.declared.type_parts.CastOptions.{CastOptions}
 use Rattle.px_types.specs.declared.type_parts.CastOptions.TheVariants.{Strict, NonStrict, Overflowing}
@@ -83,40 +83,40 @@ not_boolean value_type.Int16 h b = b
 not_boolean value_type.Int32 h b = b
 not_boolean value_type.Int64 h b = b
 
-not_text : (k : ValueType) → IsInteger k → IsString k → ⊥
-not_text value_type.Null h b = h
-not_text value_type.Boolean h b = h
-not_text value_type.String h b = h
-not_text value_type.UInt8 h b = b
-not_text value_type.UInt16 h b = b
-not_text value_type.UInt32 h b = b
-not_text value_type.UInt64 h b = b
-not_text value_type.Int8 h b = b
-not_text value_type.Int16 h b = b
-not_text value_type.Int32 h b = b
-not_text value_type.Int64 h b = b
+not_string : (k : ValueType) → IsInteger k → IsString k → ⊥
+not_string value_type.Null h b = h
+not_string value_type.Boolean h b = h
+not_string value_type.String h b = h
+not_string value_type.UInt8 h b = b
+not_string value_type.UInt16 h b = b
+not_string value_type.UInt32 h b = b
+not_string value_type.UInt64 h b = b
+not_string value_type.Int8 h b = b
+not_string value_type.Int16 h b = b
+not_string value_type.Int32 h b = b
+not_string value_type.Int64 h b = b
 
-in_type_same : (options : CastOptions) (k : ValueType) (z : ℤ) → InRange k z → in_type options k z ≡ Some (Integer z)
-in_type_same Strict k z h = ap (λ b. cond b (Some (Integer z)) None) ((holds_decides k z).1 h)
-in_type_same NonStrict k z h = ap (λ b. cond b (Some (Integer z)) None) ((holds_decides k z).1 h)
-in_type_same Overflowing k z h = ap (λ n. Some (Integer n)) (into_keeps k z h)
+in_type_same : (options : CastOptions) (k : ValueType) (z : ℤ) → InRange k z → in_type options k z ≡ Some (IntegerValue z)
+in_type_same Strict k z h = ap (λ b. cond b (Some (IntegerValue z)) None) ((holds_decides k z).1 h)
+in_type_same NonStrict k z h = ap (λ b. cond b (Some (IntegerValue z)) None) ((holds_decides k z).1 h)
+in_type_same Overflowing k z h = ap (λ n. Some (IntegerValue n)) (into_keeps k z h)
 
 integer_same : (options : CastOptions) (k : ValueType) (value : Datum) → IsInteger k → IsRowOf k (Some value) → as_integer options k value ≡ Some value
-integer_same options k (Truth t) i h = absurd (not_boolean k i h)
-integer_same options k (Text s) i h = absurd (not_text k i h)
-integer_same options k (Integer z) i h = in_type_same options k z h
+integer_same options k (BooleanValue t) i h = absurd (not_boolean k i h)
+integer_same options k (StringValue s) i h = absurd (not_string k i h)
+integer_same options k (IntegerValue z) i h = in_type_same options k z h
 
 -- a value of the type stays
 same_value : (options : CastOptions) (k : ValueType) (value : Datum) → IsRowOf k (Some value) → cast_value options k value ≡ Some value
-same_value options value_type.Null (Truth t) h = absurd h
-same_value options value_type.Null (Text s) h = absurd h
-same_value options value_type.Null (Integer z) h = absurd h
-same_value options value_type.Boolean (Truth t) h = refl
-same_value options value_type.Boolean (Text s) h = absurd h
-same_value options value_type.Boolean (Integer z) h = absurd h
-same_value options value_type.String (Truth t) h = absurd h
-same_value options value_type.String (Text s) h = refl
-same_value options value_type.String (Integer z) h = absurd h
+same_value options value_type.Null (BooleanValue t) h = absurd h
+same_value options value_type.Null (StringValue s) h = absurd h
+same_value options value_type.Null (IntegerValue z) h = absurd h
+same_value options value_type.Boolean (BooleanValue t) h = refl
+same_value options value_type.Boolean (StringValue s) h = absurd h
+same_value options value_type.Boolean (IntegerValue z) h = absurd h
+same_value options value_type.String (BooleanValue t) h = absurd h
+same_value options value_type.String (StringValue s) h = refl
+same_value options value_type.String (IntegerValue z) h = absurd h
 same_value options value_type.UInt8 value h = integer_same options value_type.UInt8 value tt h
 same_value options value_type.UInt16 value h = integer_same options value_type.UInt16 value tt h
 same_value options value_type.UInt32 value h = integer_same options value_type.UInt32 value tt h

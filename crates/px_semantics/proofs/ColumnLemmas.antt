@@ -6,7 +6,7 @@ use Rattle.std.specs.Simd.Lanes.{Each1}
 use Rattle.std.proofs.lemmas.Bool.Decides.{nat_tests}
 use Rattle.std.proofs.lemmas.List.Elements.{All-nil, All-cons}
 use Rattle.px_semantics.specs.Columns.{IsColumn, is_row_of, is_column, are_columns}
-use Rattle.px_semantics.specs.Rows.{Truth, Text, Integer, Row, TypedRows, Contents, IsRowOf}
+use Rattle.px_semantics.specs.Rows.{BooleanValue, StringValue, IntegerValue, Row, TypedRows, Contents, IsRowOf}
 use Rattle.px_types.specs.declared.value_type.ValueType.{ValueType}
 use Rattle.px_types.specs.declared.value_type.ValueType.TheVariants as value_type
 use Rattle.px_semantics.proofs.CastLemmas.{holds_decides}
@@ -18,19 +18,19 @@ both-true false q e = cc
 
 is_row_of-row : (k : ValueType) (r : Row) → is_row_of k r ≡ true → IsRowOf k r
 is_row_of-row k None e = tt
-is_row_of-row k (Some (Integer z)) e = (holds_decides k z).0 e
-is_row_of-row value_type.Boolean (Some (Truth t)) e = tt
-is_row_of-row value_type.String (Some (Text t)) e = tt
-is_row_of-row _ (Some (Truth t)) e = cc
-is_row_of-row _ (Some (Text t)) e = cc
+is_row_of-row k (Some (IntegerValue z)) e = (holds_decides k z).0 e
+is_row_of-row value_type.Boolean (Some (BooleanValue t)) e = tt
+is_row_of-row value_type.String (Some (StringValue t)) e = tt
+is_row_of-row _ (Some (BooleanValue t)) e = cc
+is_row_of-row _ (Some (StringValue t)) e = cc
 
 pub row-is_row_of : (k : ValueType) (r : Row) → IsRowOf k r → is_row_of k r ≡ true
 row-is_row_of k None h = refl
-row-is_row_of k (Some (Integer z)) h = (holds_decides k z).1 h
-row-is_row_of value_type.Boolean (Some (Truth t)) h = refl
-row-is_row_of value_type.String (Some (Text t)) h = refl
-row-is_row_of _ (Some (Truth t)) h = absurd h
-row-is_row_of _ (Some (Text t)) h = absurd h
+row-is_row_of k (Some (IntegerValue z)) h = (holds_decides k z).1 h
+row-is_row_of value_type.Boolean (Some (BooleanValue t)) h = refl
+row-is_row_of value_type.String (Some (StringValue t)) h = refl
+row-is_row_of _ (Some (BooleanValue t)) h = absurd h
+row-is_row_of _ (Some (StringValue t)) h = absurd h
 
 all-rows : (k : ValueType) (rows : List Row) → list_all (is_row_of k) rows ≡ true → Each1 (IsRowOf k) rows
 all-rows k [] e = tt
@@ -41,7 +41,7 @@ pub is_column-column : (a : TypedRows) → is_column a ≡ true → IsColumn a
 unfolding is_column
 is_column-column a e =
     let (f, g) = both-true (nat_lt (length a.rows) (2 ^ 32)) (list_all (is_row_of a.value_type) a.rows) e in
-    record { few = grind (arith, nat_tests); typed = all-rows a.value_type a.rows g }
+    record { below_limit = grind (arith, nat_tests); typed = all-rows a.value_type a.rows g }
 
 rows-all : (k : ValueType) (rows : List Row) → Each1 (IsRowOf k) rows → list_all (is_row_of k) rows ≡ true
 rows-all k [] h = refl
@@ -50,9 +50,9 @@ rows-all k (r ∷ rows) h = let here = row-is_row_of k r h.0 in let rest = rows-
 pub column-is_column : (a : TypedRows) → IsColumn a → is_column a ≡ true
 unfolding is_column
 column-is_column a h =
-    let few : nat_lt (length a.rows) (2 ^ 32) ≡ true = below (length a.rows) h.few in
+    let below_limit : nat_lt (length a.rows) (2 ^ 32) ≡ true = below (length a.rows) h.below_limit in
     let all = rows-all a.value_type a.rows h.typed in
-    rw (few, all) refl
+    rw (below_limit, all) refl
   where
     below : (n : ℕ) → n < 2 ^ 32 → nat_lt n (2 ^ 32) ≡ true
     below n h = grind (arith, nat_tests)

@@ -10,7 +10,7 @@ use Rattle.px_types.specs.declared.function.FusedOperator.{FusedOperator}
 use Rattle.px_types.specs.declared.function.FusedOperator.TheVariants.{MultiplyAdd, SubMultiply, MultiplySub}
 use Rattle.px_semantics.specs.Fused.{fused_row, fused_rows, zip3, elementwise_three}
 use Rattle.px_types.specs.Integers.{into}
-use Rattle.px_semantics.specs.Rows.{Row, TypedRows, Truth, Text, Integer, broadcast_length, stretch, elementwise}
+use Rattle.px_semantics.specs.Rows.{Row, TypedRows, BooleanValue, StringValue, IntegerValue, broadcast_length, stretch, elementwise}
 use Rattle.px_types.specs.declared.operator.Operator.{Operator}
 use Rattle.px_types.specs.declared.operator.Operator.TheVariants.{Plus, Minus, Multiply}
 use Rattle.px_types.specs.declared.value_type.ValueType.{ValueType}
@@ -21,60 +21,60 @@ use Rattle.px_semantics.specs.FusedLaws.{HaveOneType}
 
 -- on three rows
 pub sum_with_product : (value_type : ValueType) (a b c : Row) → arith_row Plus value_type a (arith_row Multiply value_type b c) ≡ fused_row MultiplyAdd value_type a b c
-sum_with_product value_type (Some (Integer a)) (Some (Integer b)) (Some (Integer c)) = ap (λ z. Some (Integer z)) (into-add_right value_type a (b *ℤ c))
-sum_with_product value_type (Some (Integer a)) (Some (Integer b)) (Some (Truth t)) = refl
-sum_with_product value_type (Some (Integer a)) (Some (Integer b)) (Some (Text s)) = refl
-sum_with_product value_type (Some (Integer a)) (Some (Integer b)) None = refl
-sum_with_product value_type (Some (Integer a)) (Some (Truth t)) c = refl
-sum_with_product value_type (Some (Integer a)) (Some (Text s)) c = refl
-sum_with_product value_type (Some (Integer a)) None c = refl
-sum_with_product value_type (Some (Truth t)) b c = refl
-sum_with_product value_type (Some (Text s)) b c = refl
+sum_with_product value_type (Some (IntegerValue a)) (Some (IntegerValue b)) (Some (IntegerValue c)) = ap (λ z. Some (IntegerValue z)) (into-add_right value_type a (b *ℤ c))
+sum_with_product value_type (Some (IntegerValue a)) (Some (IntegerValue b)) (Some (BooleanValue t)) = refl
+sum_with_product value_type (Some (IntegerValue a)) (Some (IntegerValue b)) (Some (StringValue s)) = refl
+sum_with_product value_type (Some (IntegerValue a)) (Some (IntegerValue b)) None = refl
+sum_with_product value_type (Some (IntegerValue a)) (Some (BooleanValue t)) c = refl
+sum_with_product value_type (Some (IntegerValue a)) (Some (StringValue s)) c = refl
+sum_with_product value_type (Some (IntegerValue a)) None c = refl
+sum_with_product value_type (Some (BooleanValue t)) b c = refl
+sum_with_product value_type (Some (StringValue s)) b c = refl
 sum_with_product value_type None b c = refl
 
 sum_commutes : (value_type : ValueType) (x y : Row) → arith_row Plus value_type x y ≡ arith_row Plus value_type y x
-sum_commutes value_type (Some (Integer a)) (Some (Integer b)) = ap (λ z. Some (Integer (into value_type z))) (+ℤ_comm a b)
-sum_commutes value_type (Some (Integer a)) (Some (Truth t)) = refl
-sum_commutes value_type (Some (Integer a)) (Some (Text s)) = refl
-sum_commutes value_type (Some (Integer a)) None = refl
-sum_commutes value_type (Some (Truth t)) (Some (Integer b)) = refl
-sum_commutes value_type (Some (Truth t)) (Some (Truth u)) = refl
-sum_commutes value_type (Some (Truth t)) (Some (Text v)) = refl
-sum_commutes value_type (Some (Truth t)) None = refl
-sum_commutes value_type (Some (Text s)) (Some (Integer b)) = refl
-sum_commutes value_type (Some (Text s)) (Some (Truth u)) = refl
-sum_commutes value_type (Some (Text s)) (Some (Text v)) = refl
-sum_commutes value_type (Some (Text s)) None = refl
-sum_commutes value_type None (Some (Integer b)) = refl
-sum_commutes value_type None (Some (Truth u)) = refl
-sum_commutes value_type None (Some (Text v)) = refl
+sum_commutes value_type (Some (IntegerValue a)) (Some (IntegerValue b)) = ap (λ z. Some (IntegerValue (into value_type z))) (+ℤ_comm a b)
+sum_commutes value_type (Some (IntegerValue a)) (Some (BooleanValue t)) = refl
+sum_commutes value_type (Some (IntegerValue a)) (Some (StringValue s)) = refl
+sum_commutes value_type (Some (IntegerValue a)) None = refl
+sum_commutes value_type (Some (BooleanValue t)) (Some (IntegerValue b)) = refl
+sum_commutes value_type (Some (BooleanValue t)) (Some (BooleanValue u)) = refl
+sum_commutes value_type (Some (BooleanValue t)) (Some (StringValue v)) = refl
+sum_commutes value_type (Some (BooleanValue t)) None = refl
+sum_commutes value_type (Some (StringValue s)) (Some (IntegerValue b)) = refl
+sum_commutes value_type (Some (StringValue s)) (Some (BooleanValue u)) = refl
+sum_commutes value_type (Some (StringValue s)) (Some (StringValue v)) = refl
+sum_commutes value_type (Some (StringValue s)) None = refl
+sum_commutes value_type None (Some (IntegerValue b)) = refl
+sum_commutes value_type None (Some (BooleanValue u)) = refl
+sum_commutes value_type None (Some (StringValue v)) = refl
 sum_commutes value_type None None = refl
 
 pub product_with_sum : (value_type : ValueType) (a b c : Row) → arith_row Plus value_type (arith_row Multiply value_type a b) c ≡ fused_row MultiplyAdd value_type c a b
 product_with_sum value_type a b c = sum_commutes value_type (arith_row Multiply value_type a b) c ∙ sum_with_product value_type c a b
 
 pub difference_with_product : (value_type : ValueType) (a b c : Row) → arith_row Minus value_type a (arith_row Multiply value_type b c) ≡ fused_row SubMultiply value_type a b c
-difference_with_product value_type (Some (Integer a)) (Some (Integer b)) (Some (Integer c)) = ap (λ z. Some (Integer z)) (into-sub_right value_type a (b *ℤ c))
-difference_with_product value_type (Some (Integer a)) (Some (Integer b)) (Some (Truth t)) = refl
-difference_with_product value_type (Some (Integer a)) (Some (Integer b)) (Some (Text s)) = refl
-difference_with_product value_type (Some (Integer a)) (Some (Integer b)) None = refl
-difference_with_product value_type (Some (Integer a)) (Some (Truth t)) c = refl
-difference_with_product value_type (Some (Integer a)) (Some (Text s)) c = refl
-difference_with_product value_type (Some (Integer a)) None c = refl
-difference_with_product value_type (Some (Truth t)) b c = refl
-difference_with_product value_type (Some (Text s)) b c = refl
+difference_with_product value_type (Some (IntegerValue a)) (Some (IntegerValue b)) (Some (IntegerValue c)) = ap (λ z. Some (IntegerValue z)) (into-sub_right value_type a (b *ℤ c))
+difference_with_product value_type (Some (IntegerValue a)) (Some (IntegerValue b)) (Some (BooleanValue t)) = refl
+difference_with_product value_type (Some (IntegerValue a)) (Some (IntegerValue b)) (Some (StringValue s)) = refl
+difference_with_product value_type (Some (IntegerValue a)) (Some (IntegerValue b)) None = refl
+difference_with_product value_type (Some (IntegerValue a)) (Some (BooleanValue t)) c = refl
+difference_with_product value_type (Some (IntegerValue a)) (Some (StringValue s)) c = refl
+difference_with_product value_type (Some (IntegerValue a)) None c = refl
+difference_with_product value_type (Some (BooleanValue t)) b c = refl
+difference_with_product value_type (Some (StringValue s)) b c = refl
 difference_with_product value_type None b c = refl
 
 pub product_with_difference : (value_type : ValueType) (a b c : Row) → arith_row Minus value_type (arith_row Multiply value_type a b) c ≡ fused_row MultiplySub value_type a b c
-product_with_difference value_type (Some (Integer a)) (Some (Integer b)) (Some (Integer c)) = ap (λ z. Some (Integer z)) (into-sub_left value_type (a *ℤ b) c)
-product_with_difference value_type (Some (Integer a)) (Some (Integer b)) (Some (Truth t)) = refl
-product_with_difference value_type (Some (Integer a)) (Some (Integer b)) (Some (Text s)) = refl
-product_with_difference value_type (Some (Integer a)) (Some (Integer b)) None = refl
-product_with_difference value_type (Some (Integer a)) (Some (Truth t)) c = refl
-product_with_difference value_type (Some (Integer a)) (Some (Text s)) c = refl
-product_with_difference value_type (Some (Integer a)) None c = refl
-product_with_difference value_type (Some (Truth t)) b c = refl
-product_with_difference value_type (Some (Text s)) b c = refl
+product_with_difference value_type (Some (IntegerValue a)) (Some (IntegerValue b)) (Some (IntegerValue c)) = ap (λ z. Some (IntegerValue z)) (into-sub_left value_type (a *ℤ b) c)
+product_with_difference value_type (Some (IntegerValue a)) (Some (IntegerValue b)) (Some (BooleanValue t)) = refl
+product_with_difference value_type (Some (IntegerValue a)) (Some (IntegerValue b)) (Some (StringValue s)) = refl
+product_with_difference value_type (Some (IntegerValue a)) (Some (IntegerValue b)) None = refl
+product_with_difference value_type (Some (IntegerValue a)) (Some (BooleanValue t)) c = refl
+product_with_difference value_type (Some (IntegerValue a)) (Some (StringValue s)) c = refl
+product_with_difference value_type (Some (IntegerValue a)) None c = refl
+product_with_difference value_type (Some (BooleanValue t)) b c = refl
+product_with_difference value_type (Some (StringValue s)) b c = refl
 product_with_difference value_type None b c = refl
 
 -- an operation on a list and the answers of another, as one of three lists

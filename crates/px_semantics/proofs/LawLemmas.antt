@@ -2,7 +2,7 @@
 use Rattle.std.proofs.Common.{◌≡◌, ◌≢◌, ◌∙◌, ◌⊎◌, inl, inr, ℕ, Bool, true, false, ◌&&◌, ◌||◌, not, cond, Option, Some, None, is_some, option_and_then, sym, ap, refl, arith}
 use Rattle.std.proofs.lemmas.Bool.{cases_lt}
 use Rattle.px_semantics.specs.Logic.{is_true, is_false, decided_row, and_row, or_row, xor_row, not_row}
-use Rattle.px_semantics.specs.Rows.{Row, Truth, Text, Integer, IsRowOf, broadcast_length, boolean_entry}
+use Rattle.px_semantics.specs.Rows.{Row, BooleanValue, StringValue, IntegerValue, IsRowOf, broadcast_length, boolean_entry}
 use Rattle.px_types.specs.declared.value_type.ValueType.TheVariants.{Boolean}
 use Rattle.px_semantics.proofs.Joins.{broadcast_same, broadcast_left, broadcast_right, broadcast_none}
 
@@ -57,12 +57,12 @@ broadcast_associates a b c = elim (by_eq a 1) [
 ]
 
 -- a row is true, or false, or neither
-by_truth : (P : Bool → Bool → Type 0) → P true false → P false true → P false false → (x : Row) → P (is_true x) (is_false x)
-by_truth P a b c (Some (Truth true)) = a
-by_truth P a b c (Some (Truth false)) = b
-by_truth P a b c (Some (Text s)) = c
-by_truth P a b c (Some (Integer z)) = c
-by_truth P a b c None = c
+by_boolean : (P : Bool → Bool → Type 0) → P true false → P false true → P false false → (x : Row) → P (is_true x) (is_false x)
+by_boolean P a b c (Some (BooleanValue true)) = a
+by_boolean P a b c (Some (BooleanValue false)) = b
+by_boolean P a b c (Some (StringValue s)) = c
+by_boolean P a b c (Some (IntegerValue z)) = c
+by_boolean P a b c None = c
 
 -- and, or and not by whether the operands are true and whether they are false
 abbrev both : Bool → Bool → Bool → Bool → Row
@@ -84,8 +84,8 @@ by_two : (P : Bool → Bool → Bool → Bool → Type 0)
     → P false false true false → P false false false true → P false false false false
     → (x y : Row) → P (is_true x) (is_false x) (is_true y) (is_false y)
 by_two P a b c d e f g h i x y =
-    by_truth (λ t u. P t u (is_true y) (is_false y))
-    (by_truth (P true false) a b c y) (by_truth (P false true) d e f y) (by_truth (P false false) g h i y) x
+    by_boolean (λ t u. P t u (is_true y) (is_false y))
+    (by_boolean (P true false) a b c y) (by_boolean (P false true) d e f y) (by_boolean (P false false) g h i y) x
 
 pub and_commutes : (x y : Row) → and_row x y ≡ and_row y x
 and_commutes = by_two Both-commutes refl refl refl refl refl refl refl refl refl
@@ -106,24 +106,24 @@ pub not-or : (x y : Row) → not_row (or_row x y) ≡ and_row (not_row x) (not_r
 not-or = by_two Not-of-or refl refl refl refl refl refl refl refl refl
 
 pub and_associates : (x y z : Row) → and_row (and_row x y) z ≡ and_row x (and_row y z)
-and_associates x y z = by_truth (λ t f. both (is_true (both t f (is_true y) (is_false y))) (is_false (both t f (is_true y) (is_false y))) (is_true z) (is_false z) ≡ both t f (is_true (and_row y z)) (is_false (and_row y z)))
+and_associates x y z = by_boolean (λ t f. both (is_true (both t f (is_true y) (is_false y))) (is_false (both t f (is_true y) (is_false y))) (is_true z) (is_false z) ≡ both t f (is_true (and_row y z)) (is_false (and_row y z)))
     (by_two (λ u g v h. both (is_true (both true false u g)) (is_false (both true false u g)) v h ≡ both true false (is_true (both u g v h)) (is_false (both u g v h))) refl refl refl refl refl refl refl refl refl y z)
     (by_two (λ u g v h. both (is_true (both false true u g)) (is_false (both false true u g)) v h ≡ both false true (is_true (both u g v h)) (is_false (both u g v h))) refl refl refl refl refl refl refl refl refl y z)
     (by_two (λ u g v h. both (is_true (both false false u g)) (is_false (both false false u g)) v h ≡ both false false (is_true (both u g v h)) (is_false (both u g v h))) refl refl refl refl refl refl refl refl refl y z)
     x
 
 pub or_associates : (x y z : Row) → or_row (or_row x y) z ≡ or_row x (or_row y z)
-or_associates x y z = by_truth (λ t f. either (is_true (either t f (is_true y) (is_false y))) (is_false (either t f (is_true y) (is_false y))) (is_true z) (is_false z) ≡ either t f (is_true (or_row y z)) (is_false (or_row y z)))
+or_associates x y z = by_boolean (λ t f. either (is_true (either t f (is_true y) (is_false y))) (is_false (either t f (is_true y) (is_false y))) (is_true z) (is_false z) ≡ either t f (is_true (or_row y z)) (is_false (or_row y z)))
     (by_two (λ u g v h. either (is_true (either true false u g)) (is_false (either true false u g)) v h ≡ either true false (is_true (either u g v h)) (is_false (either u g v h))) refl refl refl refl refl refl refl refl refl y z)
     (by_two (λ u g v h. either (is_true (either false true u g)) (is_false (either false true u g)) v h ≡ either false true (is_true (either u g v h)) (is_false (either u g v h))) refl refl refl refl refl refl refl refl refl y z)
     (by_two (λ u g v h. either (is_true (either false false u g)) (is_false (either false false u g)) v h ≡ either false false (is_true (either u g v h)) (is_false (either u g v h))) refl refl refl refl refl refl refl refl refl y z)
     x
 
 pub not-not : (x : Row) → IsRowOf Boolean x → not_row (not_row x) ≡ x
-not-not (Some (Truth true)) h = refl
-not-not (Some (Truth false)) h = refl
-not-not (Some (Text s)) h = absurd h
-not-not (Some (Integer z)) h = absurd h
+not-not (Some (BooleanValue true)) h = refl
+not-not (Some (BooleanValue false)) h = refl
+not-not (Some (StringValue s)) h = absurd h
+not-not (Some (IntegerValue z)) h = absurd h
 not-not None h = refl
 
 both_some : (a b : Bool) → a && b ≡ b && a

@@ -5,7 +5,7 @@ use Rattle.px_types.specs.Integers.{into}
 use Rattle.px_types.specs.declared.operator.Operator.{Operator}
 use Rattle.px_types.specs.declared.operator.Operator.TheVariants as op
 use Rattle.px_types.specs.declared.value_type.ValueType.{ValueType}
-use Rattle.px_semantics.specs.Rows.{Integer, Row, TypedRows, lift, on_integer, broadcast_rows}
+use Rattle.px_semantics.specs.Rows.{IntegerValue, Row, TypedRows, lift, on_integer, broadcast_rows}
 
 -- the floor quotient of a by b
 abbrev pub floor_quotient : ℤ → ℤ → ℤ
@@ -30,7 +30,7 @@ is_zero (negsuc n) = false
 
 -- a row of a number, null where it is 0
 abbrev pub nonzero_row : Row → Row
-nonzero_row (Some (Integer z)) = cond (is_zero z) None (Some (Integer z))
+nonzero_row (Some (IntegerValue z)) = cond (is_zero z) None (Some (IntegerValue z))
 nonzero_row _ = None
 
 -- f of two rows of numbers, null where a row is null or the second is 0

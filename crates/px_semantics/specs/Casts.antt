@@ -2,7 +2,7 @@
 use Rattle.std.specs.Prelude.{◌≡◌, Bool, false, not, cond, ◌||◌, ◌⊎◌, ℤ, pos, List, [], ◌∷◌, map, Option, Some, None, is_none, option_map, option_and_then}
 use Rattle.px_semantics.specs.Arithmetic.{is_zero}
 use Rattle.px_types.specs.Integers.{into, IsInteger}
-use Rattle.px_semantics.specs.Rows.{Datum, Truth, Text, Integer, Row, TypedRows}
+use Rattle.px_semantics.specs.Rows.{Datum, BooleanValue, StringValue, IntegerValue, Row, TypedRows}
 use Rattle.px_types.specs.ValueTypes.{holds, value_type_of}
 use Rattle.px_types.specs.declared.dtype.DataType.{DataType}
 use Rattle.px_types.specs.declared.type_parts.CastOptions.{CastOptions}
@@ -12,30 +12,30 @@ use Rattle.px_types.specs.declared.value_type.ValueType.TheVariants as value_typ
 
 -- a number in an integer type; where the type lacks it, its residue if the cast may overflow, else null
 abbrev pub in_type : CastOptions → ValueType → ℤ → Row
-in_type Overflowing k z = Some (Integer (into k z))
-in_type options k z = cond (holds k z) (Some (Integer z)) None
+in_type Overflowing k z = Some (IntegerValue (into k z))
+in_type options k z = cond (holds k z) (Some (IntegerValue z)) None
 
 -- a value in an integer type: true is 1, false is 0
 abbrev pub as_integer : CastOptions → ValueType → Datum → Row
-as_integer options k (Truth t) = Some (Integer (cond t (pos 1) (pos 0)))
-as_integer options k (Integer z) = in_type options k z
-as_integer options k (Text bytes) = None
+as_integer options k (BooleanValue t) = Some (IntegerValue (cond t (pos 1) (pos 0)))
+as_integer options k (IntegerValue z) = in_type options k z
+as_integer options k (StringValue bytes) = None
 
 -- a value as a Boolean: whether a number is not 0
-abbrev pub as_truth : Datum → Row
-as_truth (Truth t) = Some (Truth t)
-as_truth (Integer z) = Some (Truth (not (is_zero z)))
-as_truth (Text bytes) = None
+abbrev pub as_boolean : Datum → Row
+as_boolean (BooleanValue t) = Some (BooleanValue t)
+as_boolean (IntegerValue z) = Some (BooleanValue (not (is_zero z)))
+as_boolean (StringValue bytes) = None
 
-abbrev pub as_text : Datum → Row
-as_text (Text bytes) = Some (Text bytes)
-as_text _ = None
+abbrev pub as_string : Datum → Row
+as_string (StringValue bytes) = Some (StringValue bytes)
+as_string _ = None
 
 -- a value in a type, null where the type lacks it
 abbrev pub cast_value : CastOptions → ValueType → Datum → Row
 cast_value options value_type.Null value = None
-cast_value options value_type.Boolean value = as_truth value
-cast_value options value_type.String value = as_text value
+cast_value options value_type.Boolean value = as_boolean value
+cast_value options value_type.String value = as_string value
 cast_value options k value = as_integer options k value
 
 -- null stays null

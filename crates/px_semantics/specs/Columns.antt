@@ -3,28 +3,19 @@ use Rattle.std.specs.Prelude.{◌<◌, ◌^◌, Bool, true, false, ◌&&◌, nat
 use Rattle.std.specs.List.{list_all}
 use Rattle.std.specs.Simd.Lanes.{Each1}
 use Rattle.px_types.specs.declared.value_type.ValueType.{ValueType}
-use Rattle.px_types.specs.declared.value_type.ValueType.TheVariants as value_type
-use Rattle.px_semantics.specs.Rows.{Truth, Text, Integer, Row, TypedRows, Contents, IsRowOf}
+use Rattle.px_semantics.specs.Rows.{BooleanValue, StringValue, IntegerValue, Row, TypedRows, Contents, IsRowOf, is_boolean, is_string}
 use Rattle.px_types.specs.ValueTypes.{holds}
 
 pub record IsColumn (values : TypedRows) : Type 0 where
-  pub few : length values.rows < 2 ^ 32
+  pub below_limit : length values.rows < 2 ^ 32
   pub typed : Each1 (IsRowOf values.value_type) values.rows
-
-abbrev pub is_boolean : ValueType → Bool
-is_boolean value_type.Boolean = true
-is_boolean _ = false
-
-abbrev pub is_string : ValueType → Bool
-is_string value_type.String = true
-is_string _ = false
 
 -- whether the row is null or a value of the type
 abbrev pub is_row_of : ValueType → Row → Bool
 is_row_of k None = true
-is_row_of k (Some (Truth t)) = is_boolean k
-is_row_of k (Some (Text bytes)) = is_string k
-is_row_of k (Some (Integer z)) = holds k z
+is_row_of k (Some (BooleanValue t)) = is_boolean k
+is_row_of k (Some (StringValue bytes)) = is_string k
+is_row_of k (Some (IntegerValue z)) = holds k z
 
 -- the test of `IsColumn`
 unfoldable pub is_column : TypedRows → Bool

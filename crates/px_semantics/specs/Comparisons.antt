@@ -7,13 +7,13 @@ use Rattle.std.specs.Cmp.Lexicographic.{slice_cmp}
 use Rattle.px_types.specs.declared.operator.Operator.{Operator}
 use Rattle.px_types.specs.declared.operator.Operator.TheVariants as op
 use Rattle.px_types.specs.declared.value_type.ValueType.TheVariants.{Boolean}
-use Rattle.px_semantics.specs.Rows.{Datum, Truth, Text, Integer, Row, TypedRows, boolean_entry, broadcast_rows}
+use Rattle.px_semantics.specs.Rows.{Datum, BooleanValue, StringValue, IntegerValue, Row, TypedRows, boolean_entry, broadcast_rows}
 
 -- false below true, strings by their bytes, integers as numbers
 abbrev pub order : Datum → Datum → Ordering
-order (Truth x) (Truth y) = bool_cmp x y
-order (Text x) (Text y) = slice_cmp nat_cmp x y
-order (Integer x) (Integer y) = int_cmp x y
+order (BooleanValue x) (BooleanValue y) = bool_cmp x y
+order (StringValue x) (StringValue y) = slice_cmp nat_cmp x y
+order (IntegerValue x) (IntegerValue y) = int_cmp x y
 order _ _ = Equal
 
 abbrev pub less : Datum → Datum → Bool
@@ -44,8 +44,8 @@ compare_row op.Lt x y = test_row less x y
 compare_row op.LtEq x y = test_row (λ a b. not (less b a)) x y
 compare_row op.Gt x y = test_row (λ a b. less b a) x y
 compare_row op.GtEq x y = test_row (λ a b. not (less a b)) x y
-compare_row op.EqValidity x y = Some (Truth (match_rows x y))
-compare_row op.NotEqValidity x y = Some (Truth (not (match_rows x y)))
+compare_row op.EqValidity x y = Some (BooleanValue (match_rows x y))
+compare_row op.NotEqValidity x y = Some (BooleanValue (not (match_rows x y)))
 compare_row _ x y = None
 
 -- the operator is one of the eight comparisons

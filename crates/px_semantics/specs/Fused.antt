@@ -4,7 +4,7 @@ use Rattle.px_types.specs.declared.function.FusedOperator.{FusedOperator}
 use Rattle.px_types.specs.declared.function.FusedOperator.TheVariants.{MultiplyAdd, SubMultiply, MultiplySub}
 use Rattle.px_semantics.specs.Selections.{broadcast_length_three}
 use Rattle.px_types.specs.Integers.{into}
-use Rattle.px_semantics.specs.Rows.{Integer, Row, TypedRows, stretch}
+use Rattle.px_semantics.specs.Rows.{IntegerValue, Row, TypedRows, stretch}
 use Rattle.px_types.specs.declared.value_type.ValueType.{ValueType}
 
 -- a form on integers
@@ -15,7 +15,7 @@ fused MultiplySub x y z = (x *ℤ y) -ℤ z
 
 -- f of three rows of numbers, null where a row is null
 abbrev pub lift_three : (ℤ → ℤ → ℤ → ℤ) → Row → Row → Row → Row
-lift_three f (Some (Integer x)) (Some (Integer y)) (Some (Integer z)) = Some (Integer (f x y z))
+lift_three f (Some (IntegerValue x)) (Some (IntegerValue y)) (Some (IntegerValue z)) = Some (IntegerValue (f x y z))
 lift_three f _ _ _ = None
 
 -- a form on three rows of an integer type, taken into the type

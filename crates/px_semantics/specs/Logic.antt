@@ -5,20 +5,20 @@ use Rattle.px_types.specs.declared.operator.Operator.TheVariants.{And, Or, Xor, 
 use Rattle.px_types.specs.declared.value_type.ValueType.{ValueType}
 use Rattle.px_types.specs.declared.value_type.ValueType.TheVariants.{Boolean}
 use Rattle.px_semantics.specs.Bitwise.{bitwise, complement}
-use Rattle.px_semantics.specs.Rows.{Truth, Row, boolean_entry, TypedRows, lift, on_integer, broadcast_rows}
+use Rattle.px_semantics.specs.Rows.{BooleanValue, Row, boolean_entry, TypedRows, lift, on_integer, broadcast_rows}
 
 abbrev pub is_true : Row → Bool
-is_true (Some (Truth true)) = true
+is_true (Some (BooleanValue true)) = true
 is_true _ = false
 
 abbrev pub is_false : Row → Bool
-is_false (Some (Truth false)) = true
+is_false (Some (BooleanValue false)) = true
 is_false _ = false
 
 -- true, else false, else null
 abbrev pub decided_row : Bool → Bool → Row
-decided_row true other = Some (Truth true)
-decided_row false true = Some (Truth false)
+decided_row true other = Some (BooleanValue true)
+decided_row false true = Some (BooleanValue false)
 decided_row false false = None
 
 -- true where both are true, false where one is false, else null
@@ -79,12 +79,12 @@ inverse_rows a = record { value_type = a.value_type; rows = map (inverse_row a.v
 
 -- whether a row is null, and whether it is not
 abbrev pub null_row : Row → Row
-null_row None = Some (Truth true)
-null_row (Some x) = Some (Truth false)
+null_row None = Some (BooleanValue true)
+null_row (Some x) = Some (BooleanValue false)
 
 abbrev pub value_row : Row → Row
-value_row None = Some (Truth false)
-value_row (Some x) = Some (Truth true)
+value_row None = Some (BooleanValue false)
+value_row (Some x) = Some (BooleanValue true)
 
 -- the Booleans of a test of each row
 abbrev pub tested_rows : (Row → Row) → TypedRows → TypedRows

@@ -1,7 +1,7 @@
 -- Rows selected by a mask.
-use Rattle.std.specs.Prelude.{ℕ, Bool, cond, List, [], ◌∷◌, length, Option, option_and_then, option_map}
+use Rattle.std.specs.Prelude.{ℕ, Bool, cond, List, [], ◌∷◌, length, Option, option_map}
 use Rattle.px_semantics.specs.Logic.{is_true}
-use Rattle.px_semantics.specs.Rows.{Row, TypedRows, broadcast_length, stretch}
+use Rattle.px_semantics.specs.Rows.{Row, TypedRows, broadcast_lengths, stretch}
 
 -- the first row where the mask is true, else the second
 abbrev pub select_row : Bool → Row → Row → Row
@@ -9,7 +9,7 @@ select_row mask x y = cond mask x y
 
 -- the length to which three lengths broadcast
 abbrev pub broadcast_length_three : ℕ → ℕ → ℕ → Option ℕ
-broadcast_length_three k m n = option_and_then (λ l. broadcast_length k l) (broadcast_length m n)
+broadcast_length_three k m n = broadcast_lengths (k ∷ m ∷ n ∷ [])
 
 -- row by row the first list's row where the mask is true, else the second's
 abbrev pub select_all : List Row → List Row → List Row → List Row

@@ -19,12 +19,12 @@ pub record Writable : Type 0 where
   pub faults : ℕ
 
 -- whether a number is among those that fail
-abbrev pub is_listed : List ℕ → ℕ → Bool
-is_listed failing number = list_any (λ n. n == number) failing
+abbrev pub is_failing : List ℕ → ℕ → Bool
+is_failing failing number = list_any (λ n. n == number) failing
 
 -- whether the next read fails
 abbrev pub read_fails : Readable → Bool
-read_fails s = is_listed s.failing s.next
+read_fails s = is_failing s.failing s.next
 
 -- after a read that took so many bytes
 abbrev pub after_read : Readable → ℕ → Readable
@@ -40,7 +40,7 @@ room_left s = s.room - length s.contents
 
 -- whether the next write fails: it is listed, or nothing fits of a piece that has so many bytes
 abbrev pub write_fails : Writable → ℕ → Bool
-write_fails s size = (room_left s == 0 && nat_lt 0 size) || is_listed s.failing s.next
+write_fails s size = (room_left s == 0 && nat_lt 0 size) || is_failing s.failing s.next
 
 -- after a write that put these bytes
 abbrev pub after_write : Writable → List ℕ → Writable

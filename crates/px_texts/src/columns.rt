@@ -34,12 +34,12 @@ fn read_rows(alloc: Global, text: &str) -> Result<Vec<Option<i128>>, PlanError> 
     Ok(rows)
 }
 
-fn truths(alloc: Global, name: &str, rows: &[Option<i128>]) -> Result<Column, PlanError> {
-    let mut truths = Vec::new(alloc);
+fn booleans(alloc: Global, name: &str, rows: &[Option<i128>]) -> Result<Column, PlanError> {
+    let mut booleans = Vec::new(alloc);
     for row in rows {
-        truths.push(row.map(|number| number != 0))?;
+        booleans.push(row.map(|number| number != 0))?;
     }
-    Column::new_bool(alloc, name, truths.as_slice())
+    Column::new_bool(alloc, name, booleans.as_slice())
 }
 
 fn column_of(
@@ -53,7 +53,7 @@ fn column_of(
             Ok(len) => Column::new_null(alloc, name, len),
             Err(_) => Err(PlanError::TooLong),
         },
-        ValueType::Boolean => truths(alloc, name, rows),
+        ValueType::Boolean => booleans(alloc, name, rows),
         _ => Column::new_int(alloc, name, value_type.dtype(), rows),
     }
 }

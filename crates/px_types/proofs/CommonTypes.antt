@@ -6,32 +6,32 @@ use Rattle.std.specs.Prelude.{option_and_then}
 use Rattle.px_types.specs.declared.dtype.DataType.{out-DataType}
 use Rattle.px_types.specs.declared.value_type.ValueType.{ValueType}
 use Rattle.px_types.specs.declared.value_type.ValueType.TheVariants as value
-use Rattle.px_types.specs.ValueTypes.{Family, Nulls, BooleanArray, StringArray, Unsigned, Signed, family_of, type_of_family, common_family, dtype_of, value_type_of, common, common_dtype}
+use Rattle.px_types.specs.ValueTypes.{Family, Nulls, Booleans, Strings, Unsigned, Signed, family_of, type_of_family, common_family, dtype_of, value_type_of, common, common_dtype}
 
 pub common_family-swaps : (a b : Family) → common_family a b ≡ common_family b a
 common_family-swaps Nulls Nulls = refl
-common_family-swaps Nulls BooleanArray = refl
-common_family-swaps Nulls StringArray = refl
+common_family-swaps Nulls Booleans = refl
+common_family-swaps Nulls Strings = refl
 common_family-swaps Nulls (Unsigned n) = refl
 common_family-swaps Nulls (Signed n) = refl
-common_family-swaps BooleanArray Nulls = refl
-common_family-swaps BooleanArray BooleanArray = refl
-common_family-swaps BooleanArray StringArray = refl
-common_family-swaps BooleanArray (Unsigned n) = refl
-common_family-swaps BooleanArray (Signed n) = refl
-common_family-swaps StringArray Nulls = refl
-common_family-swaps StringArray BooleanArray = refl
-common_family-swaps StringArray StringArray = refl
-common_family-swaps StringArray (Unsigned n) = refl
-common_family-swaps StringArray (Signed n) = refl
+common_family-swaps Booleans Nulls = refl
+common_family-swaps Booleans Booleans = refl
+common_family-swaps Booleans Strings = refl
+common_family-swaps Booleans (Unsigned n) = refl
+common_family-swaps Booleans (Signed n) = refl
+common_family-swaps Strings Nulls = refl
+common_family-swaps Strings Booleans = refl
+common_family-swaps Strings Strings = refl
+common_family-swaps Strings (Unsigned n) = refl
+common_family-swaps Strings (Signed n) = refl
 common_family-swaps (Unsigned m) Nulls = refl
-common_family-swaps (Unsigned m) BooleanArray = refl
-common_family-swaps (Unsigned m) StringArray = refl
+common_family-swaps (Unsigned m) Booleans = refl
+common_family-swaps (Unsigned m) Strings = refl
 common_family-swaps (Unsigned m) (Unsigned n) = ap (λ k. Some (Unsigned k)) (max_comm m n)
 common_family-swaps (Unsigned m) (Signed n) = ap (λ k. Some (Signed k)) (max_comm (2 * m) n)
 common_family-swaps (Signed m) Nulls = refl
-common_family-swaps (Signed m) BooleanArray = refl
-common_family-swaps (Signed m) StringArray = refl
+common_family-swaps (Signed m) Booleans = refl
+common_family-swaps (Signed m) Strings = refl
 common_family-swaps (Signed m) (Unsigned n) = ap (λ k. Some (Signed k)) (max_comm m (2 * n))
 common_family-swaps (Signed m) (Signed n) = ap (λ k. Some (Signed k)) (max_comm m n)
 

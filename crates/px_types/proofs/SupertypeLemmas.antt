@@ -2,7 +2,8 @@
 use denote.Hole.Carrier.{out, roll}
 use Rattle.std.proofs.Common.{◌≡◌, ◌∙◌, ◌⊎◌, inl, inr, ℕ, zero, suc, Bool, true, false, ◌||◌, Option, Some, None, is_none, option_map, if◌then◌else◌, refl, sym, ap, true≢false, arith}
 use Rattle.std.specs.Option.{option_or}
-use Rattle.px_base.specs.Exact.{same, same-decides}
+use Rattle.px_base.specs.Exact.{same}
+use Rattle.px_base.proofs.Exact.{same-decides}
 use Rattle.px_types.specs.contracts.dtype.DataType.{the_row}
 use Rattle.px_types.specs.declared.dtype.DataType.{DataType, DataType-F, out-DataType}
 use Rattle.px_types.specs.declared.dtype.DataType.TheFolds.{fold-roll-DataType}

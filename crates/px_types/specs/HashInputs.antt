@@ -45,16 +45,16 @@ unknown_input (unknown.Int v) = fed.i128 v
 unknown_input _ = []
 
 -- what the variant holds, from what its types give
-abbrev pub held_input : DataType-F fed.HashWrites fed.HashWrites → fed.HashWrites
-held_input (DataType-F.Datetime unit zone) = fed.option fed.str zone
-held_input (DataType-F.List inner) = inner
-held_input (DataType-F.Array inner width) = inner ++ fed.u64 width
-held_input (DataType-F.Struct fields) = flat_map (λ field. field) fields.entries
-held_input (DataType-F.Unknown value_type) = unknown_input value_type
-held_input _ = []
+abbrev pub variant_input : DataType-F fed.HashWrites fed.HashWrites → fed.HashWrites
+variant_input (DataType-F.Datetime unit zone) = fed.option fed.str zone
+variant_input (DataType-F.List inner) = inner
+variant_input (DataType-F.Array inner width) = inner ++ fed.u64 width
+variant_input (DataType-F.Struct fields) = flat_map (λ field. field) fields.entries
+variant_input (DataType-F.Unknown value_type) = unknown_input value_type
+variant_input _ = []
 
 abbrev pub layer_input : DataType-F fed.HashWrites fed.HashWrites → fed.HashWrites
-layer_input layer = fed.u8 (layer_rank layer) ++ held_input layer
+layer_input layer = fed.u8 (layer_rank layer) ++ variant_input layer
 
 abbrev pub layer_field : Field-F fed.HashWrites fed.HashWrites → fed.HashWrites
 layer_field field = fed.str field.name ++ field.dtype

@@ -1,6 +1,7 @@
 -- Integers in the eight integer types.
-use Rattle.std.specs.Prelude.{◌^◌, ℤ, pos, ◌≤ℤ◌, ◌<ℤ◌, FitsSigned}
+use Rattle.std.specs.Prelude.{T, ◌^◌, ℤ, pos, ◌≤ℤ◌, ◌<ℤ◌, FitsSigned}
 use Rattle.std.specs.Int.{int_wrap, int_rem_euclid, w8, w16, w32, w64}
+use Rattle.px_types.specs.Classes.{is_integer_value}
 use Rattle.px_types.specs.declared.value_type.ValueType.{ValueType}
 use Rattle.px_types.specs.declared.value_type.ValueType.TheVariants.{UInt8, UInt16, UInt32, UInt64, Int8, Int16, Int32, Int64}
 
@@ -30,12 +31,4 @@ InRange _ z = ⊥
 
 -- the type is an integer type
 abbrev pub IsInteger : ValueType → Type 0
-IsInteger UInt8 = Unit {0}
-IsInteger UInt16 = Unit {0}
-IsInteger UInt32 = Unit {0}
-IsInteger UInt64 = Unit {0}
-IsInteger Int8 = Unit {0}
-IsInteger Int16 = Unit {0}
-IsInteger Int32 = Unit {0}
-IsInteger Int64 = Unit {0}
-IsInteger _ = ⊥
+IsInteger k = T (is_integer_value k)

@@ -41,15 +41,15 @@ value_type_of d = layer_value_type (out-DataType d)
 -- what the table of common types reads of a value type: of an integer type its sign and its width in bits
 pub data Family : Type 0 where
   Nulls : Family
-  BooleanArray : Family
-  StringArray : Family
+  Booleans : Family
+  Strings : Family
   Unsigned : ℕ → Family
   Signed : ℕ → Family
 
 abbrev pub family_of : ValueType → Family
 family_of value.Null = Nulls
-family_of value.Boolean = BooleanArray
-family_of value.String = StringArray
+family_of value.Boolean = Booleans
+family_of value.String = Strings
 family_of value.UInt8 = Unsigned 8
 family_of value.UInt16 = Unsigned 16
 family_of value.UInt32 = Unsigned 32
@@ -69,8 +69,8 @@ signed_type bits = if bits == 8 then dtype.Int8 else (if bits == 16 then dtype.I
 
 abbrev pub type_of_family : Family → DataType
 type_of_family Nulls = dtype.Null
-type_of_family BooleanArray = dtype.Boolean
-type_of_family StringArray = dtype.String
+type_of_family Booleans = dtype.Boolean
+type_of_family Strings = dtype.String
 type_of_family (Unsigned bits) = unsigned_type bits
 type_of_family (Signed bits) = signed_type bits
 
@@ -78,16 +78,16 @@ type_of_family (Signed bits) = signed_type bits
 abbrev pub common_family : Family → Family → Option Family
 common_family Nulls b = Some b
 common_family a Nulls = Some a
-common_family BooleanArray StringArray = None
-common_family BooleanArray b = Some b
-common_family StringArray StringArray = Some StringArray
-common_family StringArray b = None
-common_family a BooleanArray = Some a
+common_family Booleans Strings = None
+common_family Booleans b = Some b
+common_family Strings Strings = Some Strings
+common_family Strings b = None
+common_family a Booleans = Some a
 common_family (Unsigned m) (Unsigned n) = Some (Unsigned (max m n))
 common_family (Unsigned m) (Signed n) = Some (Signed (max (2 * m) n))
 common_family (Signed m) (Unsigned n) = Some (Signed (max m (2 * n)))
 common_family (Signed m) (Signed n) = Some (Signed (max m n))
-common_family a StringArray = None
+common_family a Strings = None
 
 -- the common type of two value types, where they have one
 unfoldable pub common_dtype : ValueType → ValueType → Option DataType

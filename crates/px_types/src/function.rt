@@ -43,7 +43,8 @@ fn same_function(a: &FunctionExpr, b: &FunctionExpr) -> bool
 }
 
 impl PartialEq for FunctionExpr {
-    ghost use Rattle.px_base.specs.Exact.{same, same-partial};
+    ghost use Rattle.px_base.specs.Exact.{same};
+    ghost use Rattle.px_base.proofs.Exact.{same-partial};
     ghost use Rattle.px_types.specs.contracts.function.FunctionExpr.{the_row};
     ghost use Rattle.std.specs.Prelude.{◌≡◌, IsTrue, ◌↔◌};
 
@@ -60,7 +61,7 @@ impl PartialEq for FunctionExpr {
 }
 
 impl Eq for FunctionExpr {
-    ghost use Rattle.px_base.specs.Exact.{same-equivalence};
+    ghost use Rattle.px_base.proofs.Exact.{same-equivalence};
     ghost use Rattle.px_types.specs.contracts.function.FunctionExpr.{the_row};
 
     ghost laws = { same-equivalence the_row.coded };

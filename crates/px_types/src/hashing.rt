@@ -43,7 +43,7 @@ fn hash_fields<H: Hasher>(fields: &FieldList, state: &mut H)
 }
 
 impl Hash for DataType {
-    ghost use Rattle.px_base.specs.Exact.{same-decides};
+    ghost use Rattle.px_base.proofs.Exact.{same-decides};
     ghost use Rattle.px_types.specs.contracts.dtype.DataType.{the_row};
     ghost use Rattle.px_types.specs.HashInputs.{dtype_input};
     ghost use Rattle.std.specs.Hash.{same_Alike};
@@ -58,7 +58,7 @@ impl Hash for DataType {
 }
 
 impl Hash for Field {
-    ghost use Rattle.px_base.specs.Exact.{same-decides};
+    ghost use Rattle.px_base.proofs.Exact.{same-decides};
     ghost use Rattle.px_types.specs.contracts.dtype.Field.{the_row};
     ghost use Rattle.px_types.specs.HashInputs.{field_input};
     ghost use Rattle.std.specs.Hash.{same_Alike};

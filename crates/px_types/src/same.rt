@@ -80,7 +80,8 @@ fn same_fields(a: &FieldList, b: &FieldList) -> bool
 }
 
 impl PartialEq for DataType {
-    ghost use Rattle.px_base.specs.Exact.{same, same-partial};
+    ghost use Rattle.px_base.specs.Exact.{same};
+    ghost use Rattle.px_base.proofs.Exact.{same-partial};
     ghost use Rattle.px_types.specs.contracts.dtype.DataType.{the_row};
     ghost use Rattle.std.specs.Prelude.{◌≡◌, IsTrue, ◌↔◌};
 
@@ -97,14 +98,15 @@ impl PartialEq for DataType {
 }
 
 impl Eq for DataType {
-    ghost use Rattle.px_base.specs.Exact.{same-equivalence};
+    ghost use Rattle.px_base.proofs.Exact.{same-equivalence};
     ghost use Rattle.px_types.specs.contracts.dtype.DataType.{the_row};
 
     ghost laws = { same-equivalence the_row.coded };
 }
 
 impl PartialEq for Field {
-    ghost use Rattle.px_base.specs.Exact.{same, same-partial};
+    ghost use Rattle.px_base.specs.Exact.{same};
+    ghost use Rattle.px_base.proofs.Exact.{same-partial};
     ghost use Rattle.px_types.specs.contracts.dtype.Field.{the_row};
     ghost use Rattle.std.specs.Prelude.{◌≡◌, IsTrue, ◌↔◌};
 
@@ -121,7 +123,7 @@ impl PartialEq for Field {
 }
 
 impl Eq for Field {
-    ghost use Rattle.px_base.specs.Exact.{same-equivalence};
+    ghost use Rattle.px_base.proofs.Exact.{same-equivalence};
     ghost use Rattle.px_types.specs.contracts.dtype.Field.{the_row};
 
     ghost laws = { same-equivalence the_row.coded };

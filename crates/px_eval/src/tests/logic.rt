@@ -54,7 +54,7 @@ const PAIRS: &[Row] = &[
 
 // Each operator on every pair of true, false and null.
 #[test]
-fn pairs_of_truth_values(rt: HostRuntime) -> Result<(), Fail> {
+fn pairs_of_booleans(rt: HostRuntime) -> Result<(), Fail> {
     assert_eq!(rt;
         first_wrong(rt.alloc(), Context::Select, PAIRS)?.as_str(),
         ""
@@ -82,7 +82,7 @@ const ONES: &[Row] = &[
 
 // Functions of one mask.
 #[test]
-fn single_truth_values(rt: HostRuntime) -> Result<(), Fail> {
+fn single_booleans(rt: HostRuntime) -> Result<(), Fail> {
     assert_eq!(rt;
         first_wrong(rt.alloc(), Context::Select, ONES)?.as_str(),
         ""

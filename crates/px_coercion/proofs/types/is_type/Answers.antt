@@ -1,4 +1,4 @@
-use Rattle.px_base.specs.Exact.{same-answers}
+use Rattle.px_base.proofs.Exact.{same-answers}
 use Rattle.px_types.specs.contracts.value_type.ValueType.{the_row}
 use Rattle.px_coercion.proofs.types.is_type.Goals as goal
 

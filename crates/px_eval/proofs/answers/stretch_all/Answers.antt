@@ -17,8 +17,8 @@ loop-answer-init c =
       fit = subst (λ (z : List Answer). AllFit c.args.len (map column_of z)) (sym e) (all_fit c.args.len (map column_of c.args.answers.items) c.requires);
     }
 
-pub stretched-requires : goal.stretched-requires
-stretched-requires c =
+pub broadcast_answer-requires : goal.broadcast_answer-requires
+broadcast_answer-requires c =
     let steps : into_iter_items c.loop-answer.answer-iterator ≡ c.in-Some.answer ∷ into_iter_items c.next.new.self = c.in-Some.ensures.steps.0 in
     first_fits c.args.len (column_of c.in-Some.answer) (map column_of (into_iter_items c.next.new.self))
     (subst (λ (z : List Answer). AllFit c.args.len (map column_of z)) steps c.loop-answer.invariant.fit)
@@ -26,10 +26,10 @@ stretched-requires c =
 pub loop-answer-preserved : goal.loop-answer-preserved
 loop-answer-preserved c =
     let steps : into_iter_items c.loop-answer.answer-iterator ≡ c.in-Some.answer ∷ into_iter_items c.next.new.self = c.in-Some.ensures.steps.0 in
-    let one : c.in_ok-stretched.field-0 ≡ as_answer Select c.args.len (column_of c.in-Some.answer) = search rules in
+    let one : c.in_ok-broadcast_answer.field-0 ≡ as_answer Select c.args.len (column_of c.in-Some.answer) = search rules in
     record {
       lined = lined_more c.args.len (map (as_answer Select c.args.len) (map column_of c.args.answers.items)) c.loop-answer.columns.entries c.try_push.new.self.entries
-          (into_iter_items c.loop-answer.answer-iterator) c.in-Some.answer (into_iter_items c.next.new.self) c.in_ok-stretched.field-0 steps one c.in_ok-try_push.ensures.ok c.loop-answer.invariant.lined;
+          (into_iter_items c.loop-answer.answer-iterator) c.in-Some.answer (into_iter_items c.next.new.self) c.in_ok-broadcast_answer.field-0 steps one c.in_ok-try_push.ensures.ok c.loop-answer.invariant.lined;
       fit = rest_fit c.args.len (column_of c.in-Some.answer) (map column_of (into_iter_items c.next.new.self))
           (subst (λ (z : List Answer). AllFit c.args.len (map column_of z)) steps c.loop-answer.invariant.fit);
     }

@@ -2,7 +2,10 @@ use Rattle.std.proofs.Common.{◌≡◌, ◌∙◌, sym, ap, Some, None}
 use Rattle.std.specs.Option.{option_copied}
 use Rattle.px_semantics.specs.Frames.{column_named}
 use Rattle.px_kernels.specs.Buffers.{values_of}
-use Rattle.px_eval.proofs.Single.{outside, binary_case, cast_case, ternary_case, alias_case, column_case, column_there, literal_typed, literal_case, shared_ok, given_err, owned_ok, owned_err}
+use Rattle.px_eval.proofs.Single.{outside, binary_case, cast_case, ternary_case, alias_case, column_case, column_there, literal_typed, literal_case, shared_ok, cast_ok, given_err, owned_ok, owned_err}
+use Rattle.px_base.proofs.Answers as refusal
+use Rattle.px_base.specs.declared.error.PlanError.TheVariants.{InvalidCast}
+use Rattle.px_eval.specs.Table as table_rows
 use Rattle.px_eval.proofs.own.own_rows.Goals as goal
 
 pub share-requires : goal.share-requires
@@ -49,11 +52,11 @@ unreachable-requires-in-Len g c = outside (g.K.Kernels.definitions c.args.kernel
 pub binary-requires : goal.binary-requires
 binary-requires g c = let case = binary_case (g.K.Kernels.definitions c.args.kernels.now) c.args.frame.now c.requires.fits c.args.table.now c.args.expr.now c.in-BinaryExpr.left c.in-BinaryExpr.right c.in-BinaryExpr.op (values_of c.at-a.result.now) (values_of c.at-b.result.now) c.in-BinaryExpr.is c.requires.ready c.at-a.ensures c.at-b.ensures in case.1
 
-pub choose-requires-clause-mask : goal.choose-requires-clause-mask
-choose-requires-clause-mask g c = let case = ternary_case (g.K.Kernels.definitions c.args.kernels.now) c.args.frame.now c.requires.fits c.args.table.now c.args.expr.now c.in-Ternary.predicate c.in-Ternary.truthy c.in-Ternary.falsy (values_of c.at-mask.result.now) (values_of c.at-first.result.now) (values_of c.at-second.result.now) c.in-Ternary.is c.requires.ready c.at-mask.ensures c.at-first.ensures c.at-second.ensures in case.1.mask
+pub select_by_mask-requires-clause-mask : goal.select_by_mask-requires-clause-mask
+select_by_mask-requires-clause-mask g c = let case = ternary_case (g.K.Kernels.definitions c.args.kernels.now) c.args.frame.now c.requires.fits c.args.table.now c.args.expr.now c.in-Ternary.predicate c.in-Ternary.truthy c.in-Ternary.falsy (values_of c.at-mask.result.now) (values_of c.at-first.result.now) (values_of c.at-second.result.now) c.in-Ternary.is c.requires.ready c.at-mask.ensures c.at-first.ensures c.at-second.ensures in case.1.mask
 
-pub choose-requires-clause-same : goal.choose-requires-clause-same
-choose-requires-clause-same g c = let case = ternary_case (g.K.Kernels.definitions c.args.kernels.now) c.args.frame.now c.requires.fits c.args.table.now c.args.expr.now c.in-Ternary.predicate c.in-Ternary.truthy c.in-Ternary.falsy (values_of c.at-mask.result.now) (values_of c.at-first.result.now) (values_of c.at-second.result.now) c.in-Ternary.is c.requires.ready c.at-mask.ensures c.at-first.ensures c.at-second.ensures in case.1.same
+pub select_by_mask-requires-clause-same : goal.select_by_mask-requires-clause-same
+select_by_mask-requires-clause-same g c = let case = ternary_case (g.K.Kernels.definitions c.args.kernels.now) c.args.frame.now c.requires.fits c.args.table.now c.args.expr.now c.in-Ternary.predicate c.in-Ternary.truthy c.in-Ternary.falsy (values_of c.at-mask.result.now) (values_of c.at-first.result.now) (values_of c.at-second.result.now) c.in-Ternary.is c.requires.ready c.at-mask.ensures c.at-first.ensures c.at-second.ensures in case.1.same
 
 pub returns-in-BinaryExpr-clause-ok : goal.returns-in-BinaryExpr-clause-ok
 returns-in-BinaryExpr-clause-ok g c =
@@ -68,21 +71,21 @@ returns-in-BinaryExpr-clause-err g c =
 pub returns-in-Ternary-clause-ok : goal.returns-in-Ternary-clause-ok
 returns-in-Ternary-clause-ok g c =
     let case = ternary_case (g.K.Kernels.definitions c.args.kernels.now) c.args.frame.now c.requires.fits c.args.table.now c.args.expr.now c.in-Ternary.predicate c.in-Ternary.truthy c.in-Ternary.falsy (values_of c.at-mask.result.now) (values_of c.at-first.result.now) (values_of c.at-second.result.now) c.in-Ternary.is c.requires.ready c.at-mask.ensures c.at-first.ensures c.at-second.ensures in
-    owned_ok (g.K.Kernels.definitions c.args.kernels.now) c.args.frame.now c.requires.fits c.args.table.now c.args.expr.now c.owned-in-Ternary.result c.choose.result _ _ c.owned-in-Ternary.ensures c.choose.ensures case.0
+    owned_ok (g.K.Kernels.definitions c.args.kernels.now) c.args.frame.now c.requires.fits c.args.table.now c.args.expr.now c.owned-in-Ternary.result c.select_by_mask.result _ _ c.owned-in-Ternary.ensures c.select_by_mask.ensures case.0
 
 pub returns-in-Ternary-clause-err : goal.returns-in-Ternary-clause-err
 returns-in-Ternary-clause-err g c =
     let case = ternary_case (g.K.Kernels.definitions c.args.kernels.now) c.args.frame.now c.requires.fits c.args.table.now c.args.expr.now c.in-Ternary.predicate c.in-Ternary.truthy c.in-Ternary.falsy (values_of c.at-mask.result.now) (values_of c.at-first.result.now) (values_of c.at-second.result.now) c.in-Ternary.is c.requires.ready c.at-mask.ensures c.at-first.ensures c.at-second.ensures in
-    owned_err (g.K.Kernels.definitions c.args.kernels.now) c.args.frame.now c.requires.fits c.args.table.now c.args.expr.now c.owned-in-Ternary.result c.choose.result _ _ c.requires.ready c.owned-in-Ternary.ensures c.choose.ensures case.0
+    owned_err (g.K.Kernels.definitions c.args.kernels.now) c.args.frame.now c.requires.fits c.args.table.now c.args.expr.now c.owned-in-Ternary.result c.select_by_mask.result _ _ c.requires.ready c.owned-in-Ternary.ensures c.select_by_mask.ensures case.0
 
-pub own_cast-requires-clause-filled : goal.own_cast-requires-clause-filled
-own_cast-requires-clause-filled g c = (cast_case (g.K.Kernels.definitions c.args.kernels.now) c.args.frame.now c.requires.fits c.args.table.now c.args.expr.now c.in-Cast.input c.in-Cast.dtype c.in-Cast.options c.in-Cast.is c.requires.ready).filled
+pub cast_own_type-requires-clause-filled : goal.cast_own_type-requires-clause-filled
+cast_own_type-requires-clause-filled g c = (cast_case (g.K.Kernels.definitions c.args.kernels.now) c.args.frame.now c.requires.fits c.args.table.now c.args.expr.now c.in-Cast.input c.in-Cast.dtype c.in-Cast.options c.in-Cast.is c.requires.ready).filled
 
-pub own_cast-requires-clause-castable : goal.own_cast-requires-clause-castable
-own_cast-requires-clause-castable g c = (cast_case (g.K.Kernels.definitions c.args.kernels.now) c.args.frame.now c.requires.fits c.args.table.now c.args.expr.now c.in-Cast.input c.in-Cast.dtype c.in-Cast.options c.in-Cast.is c.requires.ready).castable
+pub cast_own_type-requires-clause-castable : goal.cast_own_type-requires-clause-castable
+cast_own_type-requires-clause-castable g c = (cast_case (g.K.Kernels.definitions c.args.kernels.now) c.args.frame.now c.requires.fits c.args.table.now c.args.expr.now c.in-Cast.input c.in-Cast.dtype c.in-Cast.options c.in-Cast.is c.requires.ready).castable
 
 pub returns-in-Cast-clause-ok : goal.returns-in-Cast-clause-ok
-returns-in-Cast-clause-ok g c = shared_ok _ _ c.own_cast.result (cast_case (g.K.Kernels.definitions c.args.kernels.now) c.args.frame.now c.requires.fits c.args.table.now c.args.expr.now c.in-Cast.input c.in-Cast.dtype c.in-Cast.options c.in-Cast.is c.requires.ready).case.gives c.own_cast.ensures.ok
+returns-in-Cast-clause-ok g c = cast_ok _ _ c.cast_own_type.result (cast_case (g.K.Kernels.definitions c.args.kernels.now) c.args.frame.now c.requires.fits c.args.table.now c.args.expr.now c.in-Cast.input c.in-Cast.dtype c.in-Cast.options c.in-Cast.is c.requires.ready).case.gives c.cast_own_type.ensures.answer
 
 pub returns-in-Cast-clause-err : goal.returns-in-Cast-clause-err
-returns-in-Cast-clause-err g c = given_err (g.K.Kernels.definitions c.args.kernels.now) c.args.frame.now c.requires.fits c.args.table.now c.args.expr.now c.own_cast.result _ _ c.requires.ready c.own_cast.ensures.err (cast_case (g.K.Kernels.definitions c.args.kernels.now) c.args.frame.now c.requires.fits c.args.table.now c.args.expr.now c.in-Cast.input c.in-Cast.dtype c.in-Cast.options c.in-Cast.is c.requires.ready).case
+returns-in-Cast-clause-err g c = given_err (g.K.Kernels.definitions c.args.kernels.now) c.args.frame.now c.requires.fits c.args.table.now c.args.expr.now c.cast_own_type.result _ _ c.requires.ready (refusal.given_err InvalidCast table_rows.values_of c.cast_own_type.result _ c.cast_own_type.ensures.answer) (cast_case (g.K.Kernels.definitions c.args.kernels.now) c.args.frame.now c.requires.fits c.args.table.now c.args.expr.now c.in-Cast.input c.in-Cast.dtype c.in-Cast.options c.in-Cast.is c.requires.ready).case

@@ -10,4 +10,4 @@ pub returns-clause-again : goal.returns-clause-again
 returns-clause-again c =
     let small : Fits w32 c.len-len.result = search rules in
     written_again c.args.column.now c.column_value.result
-    (record { few = rw (← c.len-len.ensures.rows) (Fits-lt-pow small); typed = c.len-len.ensures.typed }) c.column_value.ensures
+    (record { below_limit = rw (← c.len-len.ensures.rows) (Fits-lt-pow small); typed = c.len-len.ensures.typed }) c.column_value.ensures

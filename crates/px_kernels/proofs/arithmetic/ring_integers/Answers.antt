@@ -1,10 +1,19 @@
 use Rattle.px_kernels.proofs.arithmetic.ring_integers.Goals as goal
 
-pub returns-in-Plus-clause-rows : goal.returns-in-Plus-clause-rows
-returns-in-Plus-clause-rows g c = rw c.in-Plus.is c.combine.ensures.rows
+pub returns-in-Plus : goal.returns-in-Plus
+returns-in-Plus g c =
+    record {
+      rows = rw c.in-Plus.is c.combine.ensures.rows;
+    }
 
-pub returns-in-Minus-clause-rows : goal.returns-in-Minus-clause-rows
-returns-in-Minus-clause-rows g c = rw c.in-Minus.is c.combine-in-Minus.ensures.rows
+pub returns-in-Minus : goal.returns-in-Minus
+returns-in-Minus g c =
+    record {
+      rows = rw c.in-Minus.is c.combine-in-Minus.ensures.rows;
+    }
 
-pub returns-in-Multiply-clause-rows : goal.returns-in-Multiply-clause-rows
-returns-in-Multiply-clause-rows g c = rw c.in-Multiply.is c.combine-in-Multiply.ensures.rows
+pub returns-in-Multiply : goal.returns-in-Multiply
+returns-in-Multiply g c =
+    record {
+      rows = rw c.in-Multiply.is c.combine-in-Multiply.ensures.rows;
+    }

@@ -6,7 +6,7 @@ use Rattle.px_types.specs.Integers.{InRange}
 use Rattle.px_semantics.specs.Logic.{is_true}
 use Rattle.px_semantics.specs.Rows.{entry}
 use Rattle.px_semantics.proofs.CastLemmas.{bit_in}
-use Rattle.px_kernels.proofs.CastRows.{truths_cast, casts_at, each_bit_inside}
+use Rattle.px_kernels.proofs.CastRows.{booleans_cast, casts_at, each_bit_inside}
 use Rattle.px_kernels.proofs.casts.booleans_as_integers.Goals as goal
 
 pub from_parts-requires : goal.from_parts-requires
@@ -24,4 +24,4 @@ returns g c = λ options.
     let k = g.T.Integer.value_type in
     let xs = c.args.a.now in
     casts_at (as_integer options k) xs xs (zip2 entry (map is_some xs) (map (λ b. cond b (pos 1) (pos 0)) (map is_true xs))) c.from_parts.result refl
-    (c.from_parts.ensures ∙ rw (c.in_ok-valid.ensures, c.valid-2.ensures, c.in_ok-values.ensures, c.truth.ensures) refl) (truths_cast options k xs c.len.ensures.typed)
+    (c.from_parts.ensures ∙ rw (c.in_ok-valid.ensures, c.valid-2.ensures, c.in_ok-values.ensures, c.truth.ensures) refl) (booleans_cast options k xs c.len.ensures.typed)

@@ -1,14 +1,11 @@
 use Rattle.std.proofs.Common.{◌∙◌, sym}
 use Rattle.px_kernels.specs.Buffers.{values_of}
-use Rattle.px_kernels.proofs.CastRows.{cast_answer, cast_refusal}
+use Rattle.px_kernels.proofs.CastRows.{cast_answer}
 use Rattle.px_kernels.proofs.casts.cast_buffer.Goals as goal
 
-pub returns-clause-rows : goal.returns-clause-rows
-returns-clause-rows c =
-    cast_answer c.args.options c.args.to.now (values_of c.args.a.now) c.in-Some.value_type c.cast_values.result (sym c.value_type.ensures.value ∙ c.in-Some.is)
-    c.cast_values.ensures.value_type c.cast_values.ensures.rows
-
-pub returns-clause-err : goal.returns-clause-err
-returns-clause-err c =
-    cast_refusal c.args.options c.args.to.now (values_of c.args.a.now) c.in-Some.value_type c.cast_values.result (sym c.value_type.ensures.value ∙ c.in-Some.is)
-    c.cast_values.ensures.err
+pub returns : goal.returns
+returns c =
+    record {
+      rows = cast_answer c.args.options c.args.to.now (values_of c.args.a.now) c.in-Some.value_type c.cast_values.result (sym c.value_type.ensures.value ∙ c.in-Some.is)
+          c.cast_values.ensures.value_type c.cast_values.ensures.rows;
+    }

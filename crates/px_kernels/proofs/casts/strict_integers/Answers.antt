@@ -10,12 +10,16 @@ loses_bit-requires g c =
     ap length c.valid.ensures ∙ length-map c.args.a.now is_some
     ∙ sym (ap length c.valid-2.ensures ∙ length-map c.in_ok-rows.rows is_some ∙ ap length c.in_ok-rows.ensures ∙ length-map c.args.a.now (cast_row (as_integer NonStrict g.T.Integer.value_type)))
 
-pub returns-then-loses_bit-clause-err : goal.returns-then-loses_bit-clause-err
-returns-then-loses_bit-clause-err g c =
+pub returns-then-loses_bit : goal.returns-then-loses_bit
+returns-then-loses_bit g c =
     let lost = rw (c.valid.ensures, c.valid-2.ensures) at c.loses_bit.ensures in
-    inr (refl, strict_gives g.T.Integer.value_type c.args.a.now c.in_ok-rows.rows c.loses_bit.result c.in_ok-rows.ensures lost ∙ ap (λ b. cond b None (Some c.in_ok-rows.rows)) c.if-loses_bit.true)
+    record {
+      rows = inr (refl, strict_gives g.T.Integer.value_type c.args.a.now c.in_ok-rows.rows c.loses_bit.result c.in_ok-rows.ensures lost ∙ ap (λ b. cond b None (Some c.in_ok-rows.rows)) c.if-loses_bit.true);
+    }
 
-pub returns-clause-rows : goal.returns-clause-rows
-returns-clause-rows g c =
+pub returns : goal.returns
+returns g c =
     let lost = rw (c.valid.ensures, c.valid-2.ensures) at c.loses_bit.ensures in
-    sym (strict_gives g.T.Integer.value_type c.args.a.now c.in_ok-rows.rows c.loses_bit.result c.in_ok-rows.ensures lost ∙ ap (λ b. cond b None (Some c.in_ok-rows.rows)) c.if-loses_bit.false)
+    record {
+      rows = sym (strict_gives g.T.Integer.value_type c.args.a.now c.in_ok-rows.rows c.loses_bit.result c.in_ok-rows.ensures lost ∙ ap (λ b. cond b None (Some c.in_ok-rows.rows)) c.if-loses_bit.false);
+    }

@@ -7,10 +7,12 @@ use Rattle.px_kernels.proofs.KernelRows.{compare_gives, compare_none}
 use Rattle.px_kernels.proofs.BroadcastRows.{two_wide, wide_rows, no_rows}
 use Rattle.px_kernels.proofs.comparison.compare_buffers.Goals as goal
 
-pub returns-in_default-clause-err : goal.returns-in_default-clause-err
-returns-in_default-clause-err c =
+pub returns-in_default : goal.returns-in_default
+returns-in_default c =
     let p = rw (c.len.ensures.rows, c.len-2.ensures.rows) at (sym c.join_lengths.ensures ∙ c.in_default.is) in
-    inr (refl, compare_none c.args.op (values_of c.args.a.now) (values_of c.args.b.now) (no_rows (compare_row c.args.op) (rows_of c.args.a.now) (rows_of c.args.b.now) p))
+    record {
+      rows = inr (refl, compare_none c.args.op (values_of c.args.a.now) (values_of c.args.b.now) (no_rows (compare_row c.args.op) (rows_of c.args.a.now) (rows_of c.args.b.now) p));
+    }
 
 pub broadcast-requires : goal.broadcast-requires
 broadcast-requires c =
@@ -31,9 +33,11 @@ elementwise_values-requires-clause-same_length c =
     let j = broadcasts_to (length (rows_of c.args.a.now)) (length (rows_of c.args.b.now)) c.in-Some.len p in
     rw (c.wide_or.ensures, c.wide_or-2.ensures, c.in_ok-first.ensures.rows, c.in_ok-second.ensures.rows) (two_wide (rows_of c.args.a.now) (rows_of c.args.b.now) c.in-Some.len j.0 j.1)
 
-pub returns-clause-rows : goal.returns-clause-rows
-returns-clause-rows c =
+pub returns : goal.returns
+returns c =
     let p = rw (c.len.ensures.rows, c.len-2.ensures.rows) at (sym c.join_lengths.ensures ∙ c.in-Some.is) in
     let e = rw (c.wide_or.ensures, c.wide_or-2.ensures) at c.in_ok-rows.ensures in
-    compare_gives c.args.op (values_of c.args.a.now) (values_of c.args.b.now) c.in_ok-rows.rows
-    (wide_rows (compare_row c.args.op) (rows_of c.args.a.now) (rows_of c.args.b.now) _ _ c.in_ok-rows.rows c.in-Some.len p c.in_ok-first.ensures.rows c.in_ok-second.ensures.rows e)
+    record {
+      rows = compare_gives c.args.op (values_of c.args.a.now) (values_of c.args.b.now) c.in_ok-rows.rows
+          (wide_rows (compare_row c.args.op) (rows_of c.args.a.now) (rows_of c.args.b.now) _ _ c.in_ok-rows.rows c.in-Some.len p c.in_ok-first.ensures.rows c.in_ok-second.ensures.rows e);
+    }

@@ -1,11 +1,11 @@
-use Rattle.std.proofs.Common.{◌∙◌, sym, ap}
-use Rattle.std.proofs.lemmas.Result.{IfOk-weaker, IfErr-weaker}
+use Rattle.std.proofs.Common.{◌∙◌, ap}
+use Rattle.px_base.proofs.Answers.{gives_as}
+use Rattle.px_base.specs.declared.error.PlanError.TheVariants.{ShapeMismatch}
 use Rattle.px_semantics.specs.Arithmetic.{arith_row}
 use Rattle.px_semantics.specs.Rows.{elementwise}
 use Rattle.px_types.specs.declared.operator.Operator.TheVariants.{Minus}
 use Rattle.px_column.specs.ColumnOf.{type_of, rows_of}
 use Rattle.px_kernels.proofs.FormRows.{after_first, product_steps}
-use Rattle.px_kernels.proofs.KernelRows.{refused}
 use Rattle.px_kernels.proofs.fusion.product_minus.Goals as goal
 
 pub returns-clause-rows : goal.returns-clause-rows
@@ -15,13 +15,4 @@ returns-clause-rows c =
     let law = product_steps k (rows_of c.args.a.now) (rows_of c.args.b.now) zs in
     let as_first = ap (λ k. elementwise (arith_row Minus k) (rows_of c.in_ok-product.product) zs) c.in_ok-product.ensures.value_type in
     let step = as_first ∙ after_first (λ p. elementwise (arith_row Minus k) p zs) _ _ (rows_of c.in_ok-product.product) law c.in_ok-product.ensures.rows in
-    IfOk-weaker c.ring_buffers-2.result _ _ (λ r e. e ∙ step) c.ring_buffers-2.ensures.rows
-
-pub returns-clause-err : goal.returns-clause-err
-returns-clause-err c =
-    let k = type_of c.args.a.now in
-    let zs = rows_of c.args.c.now in
-    let law = product_steps k (rows_of c.args.a.now) (rows_of c.args.b.now) zs in
-    let as_first = ap (λ k. elementwise (arith_row Minus k) (rows_of c.in_ok-product.product) zs) c.in_ok-product.ensures.value_type in
-    let step = as_first ∙ after_first (λ p. elementwise (arith_row Minus k) p zs) _ _ (rows_of c.in_ok-product.product) law c.in_ok-product.ensures.rows in
-    IfErr-weaker c.ring_buffers-2.result _ _ (λ e h. refused e (λ none. sym step ∙ none) h) c.ring_buffers-2.ensures.err
+    gives_as ShapeMismatch rows_of c.ring_buffers-2.result step c.ring_buffers-2.ensures.rows

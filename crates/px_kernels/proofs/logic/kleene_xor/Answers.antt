@@ -10,10 +10,10 @@ logic-requires-clause-operand c = rw c.buffer.ensures.value_type c.requires.oper
 pub logic-requires-clause-same : goal.logic-requires-clause-same
 logic-requires-clause-same c = c.buffer.ensures.value_type ∙ c.requires.same ∙ sym c.buffer-2.ensures.value_type
 
-pub returns-in_err-buffer-clause-err : goal.returns-in_err-buffer-clause-err
-returns-in_err-buffer-clause-err c =
+pub returns-in_err-buffer-clause-rows : goal.returns-in_err-buffer-clause-rows
+returns-in_err-buffer-clause-rows c =
     let p = err_from_is_err_and c.from_residual.result c.from_residual.ensures.1 in
-    let e = rw (c.buffer.ensures.value_type, c.buffer.ensures.rows, c.buffer-2.ensures.rows) at c.in_err-buffer.ensures.err in
+    let e = rw (c.buffer.ensures.value_type, c.buffer.ensures.rows, c.buffer-2.ensures.rows) at c.in_err-buffer.ensures.rows in
     rw (p.1, p.2) (refused _ (logic_none Xor c.args.a.now.values c.args.b.now.values) e)
 
 pub returns-clause-rows : goal.returns-clause-rows

@@ -4,7 +4,7 @@ use Rattle.std.proofs.lemmas.List.{length-map}
 use Rattle.std.proofs.lemmas.Result.{IfOk-weaker}
 use Rattle.std.proofs.lemmas.Simd.{length-zip2}
 use Rattle.px_semantics.specs.Comparisons.{test_row}
-use Rattle.px_semantics.specs.Rows.{Integer, entry}
+use Rattle.px_semantics.specs.Rows.{IntegerValue, entry}
 use Rattle.px_arrays.proofs.Bitmaps.{zip2_maps}
 use Rattle.px_kernels.proofs.TestRows.{test_entries}
 use Rattle.px_kernels.proofs.row_tests.integer_tests.Goals as goal
@@ -20,8 +20,8 @@ from_flags-requires g c =
     let ys = c.values-2.result.now in
     let us = c.args.a.now in
     let vs = c.args.b.now in
-    rw (c.as_slice.ensures.value, c.in_ok-flags.ensures, c.in_ok-valid.ensures, c.valid.ensures, c.valid-2.ensures, zip2_maps n (λ x y. f (Integer x) (Integer y)) xs ys)
-    (length-zip2 (λ x y. f (Integer x) (Integer y)) (map n xs) (map n ys) (length-map xs n ∙ c.values.ensures.same_length ∙ c.requires ∙ sym (length-map ys n ∙ c.values-2.ensures.same_length))
+    rw (c.as_slice.ensures.value, c.in_ok-flags.ensures, c.in_ok-valid.ensures, c.valid.ensures, c.valid-2.ensures, zip2_maps n (λ x y. f (IntegerValue x) (IntegerValue y)) xs ys)
+    (length-zip2 (λ x y. f (IntegerValue x) (IntegerValue y)) (map n xs) (map n ys) (length-map xs n ∙ c.values.ensures.same_length ∙ c.requires ∙ sym (length-map ys n ∙ c.values-2.ensures.same_length))
     ∙ length-map xs n ∙ c.values.ensures.same_length
     ∙ sym (length-zip2 (λ x y. x && y) (map is_some us) (map is_some vs) (length-map us is_some ∙ c.requires ∙ sym (length-map vs is_some)) ∙ length-map us is_some))
 
@@ -34,7 +34,7 @@ returns g c =
     let us = c.args.a.now in
     let vs = c.args.b.now in
     IfOk-weaker c.from_flags.result _ _
-    (λ r e. e ∙ rw (c.as_slice.ensures.value, c.in_ok-flags.ensures, c.in_ok-valid.ensures, c.valid.ensures, c.valid-2.ensures, zip2_maps n (λ x y. f (Integer x) (Integer y)) xs ys)
+    (λ r e. e ∙ rw (c.as_slice.ensures.value, c.in_ok-flags.ensures, c.in_ok-valid.ensures, c.valid.ensures, c.valid-2.ensures, zip2_maps n (λ x y. f (IntegerValue x) (IntegerValue y)) xs ys)
     (test_entries f (map is_some us) (map is_some vs) (map n xs) (map n ys)
     ∙ ap (λ l. zip2 (test_row f) l (zip2 entry (map is_some vs) (map n ys))) c.values.ensures.entries
     ∙ ap (λ l. zip2 (test_row f) us l) c.values-2.ensures.entries))

@@ -9,7 +9,7 @@ use Rattle.px_kernels.proofs.row_tests.string_tests.Goals as goal
 
 pub loop-i-preserved : goal.loop-i-preserved
 loop-i-preserved g c =
-    let f = g.F.TextTest.meaning in
+    let f = g.F.StringTest.meaning in
     let xs = c.args.a.now in
     let ys = c.args.b.now in
     let i = c.loop-i.i in
@@ -23,7 +23,7 @@ loop-i-preserved g c =
 
 pub from_flags-requires : goal.from_flags-requires
 from_flags-requires g c =
-    let f = g.F.TextTest.meaning in
+    let f = g.F.StringTest.meaning in
     let xs = c.args.a.now in
     let ys = c.args.b.now in
     let all = c.loop-i.invariant ∙ take_all c.loop-i.i (zip2 (both_pass f) xs ys) (omega (arith, length-zip2 (both_pass f) xs ys c.requires, c.len-len.ensures.rows)) in
@@ -33,7 +33,7 @@ from_flags-requires g c =
 
 pub returns : goal.returns
 returns g c =
-    let f = g.F.TextTest.meaning in
+    let f = g.F.StringTest.meaning in
     let xs = c.args.a.now in
     let ys = c.args.b.now in
     let all = c.loop-i.invariant ∙ take_all c.loop-i.i (zip2 (both_pass f) xs ys) (omega (arith, length-zip2 (both_pass f) xs ys c.requires, c.len-len.ensures.rows)) in

@@ -1,7 +1,7 @@
 use Rattle.std.proofs.Common.{◌+◌, ◌<◌, arith, subst, sym, List, Option}
 use Rattle.px_arena.specs.declared.node.AExpr.{AExpr}
 use Rattle.px_arena.specs.Runs.{Offers, Runs, done}
-use Rattle.px_rules.proofs.Turns.{turn, settled, run_checked, run_grown}
+use Rattle.px_rules.proofs.Turns.{turn, normal_place, run_checked, run_grown}
 use Rattle.px_arena.proofs.Measure.{weight_at}
 use Rattle.px_expr.specs.Kernel.{all_kernels}
 use Rattle.px_expr.specs.Plan.{catalog_of}
@@ -84,12 +84,12 @@ returns-clause-runs g c =
     let (r, ticks, count, run) = c.loop-expr.invariant in
     (r, ticks, run_grown Rewrite keeps.lighter c.args.node.0 _ _ _ r run c.optimize_expr.ensures.kept)
 
-pub returns-clause-settled : goal.returns-clause-settled
-returns-clause-settled g c =
+pub returns-clause-normal : goal.returns-clause-normal
+returns-clause-normal g c =
     let plan = c.args.plan.now in
     let catalog = catalog_of plan.schema.now (all_kernels (λ b. (goal.ColumnsUdf-dyn g (b.vtable, b.value)).declared b.value) (λ b. (goal.ColumnsUdf-dyn g (b.vtable, b.value)).answer b.value) plan.kernels.now.entries.items) in
     let Rewrite = g.R.OptimizationRule.is_rewrite catalog plan.context in
     let keeps = g.met.R.OptimizationRule.keeps catalog plan.context in
     let (r, ticks, count, run) = c.loop-expr.invariant in
     let none = subst (λ (o : Option AExpr). Offers Rewrite c.loop-expr.arena c.optimize_expr.new.arena c.args.node.0 o) c.in_default.is c.in_ok-expr.ensures.answer in
-    settled catalog Rewrite c.args.node.0 _ _ (run_checked catalog plan.context Rewrite keeps c.args.node.0 _ _ r run c.requires) c.optimize_expr.ensures.kept none
+    normal_place catalog Rewrite c.args.node.0 _ _ (run_checked catalog plan.context Rewrite keeps c.args.node.0 _ _ r run c.requires) c.optimize_expr.ensures.kept none

@@ -1,4 +1,4 @@
-use Rattle.px_arrays.proofs.Truth.{have_rows, with_null_and}
+use Rattle.px_arrays.proofs.BooleanRows.{have_rows, with_null_and}
 use Rattle.px_arrays.proofs.boolean_array.BooleanArray.false_or_null.Goals as goal
 
 pub invariant_of-result : goal.invariant_of-result

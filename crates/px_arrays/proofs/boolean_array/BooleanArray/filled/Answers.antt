@@ -1,5 +1,5 @@
 use Rattle.std.proofs.Common.{◌∙◌, ap, replicate}
-use Rattle.px_arrays.proofs.Truth.{value_repeated}
+use Rattle.px_arrays.proofs.BooleanRows.{value_repeated}
 use Rattle.px_arrays.proofs.boolean_array.BooleanArray.filled.Goals as goal
 
 pub invariant_of-result : goal.invariant_of-result

@@ -1,6 +1,6 @@
 use Rattle.std.proofs.Common.{◌∙◌}
 use Rattle.std.proofs.lemmas.Result.{IfOk-weaker}
-use Rattle.px_arrays.proofs.Truth.{option_entries}
+use Rattle.px_arrays.proofs.BooleanRows.{option_entries}
 use Rattle.px_arrays.proofs.boolean_array.BooleanArray.from_options.Goals as goal
 
 pub returns : goal.returns

@@ -1,6 +1,6 @@
 use Rattle.std.proofs.Common.{◌&&◌, ◌∙◌, ap, length}
 use Rattle.std.proofs.lemmas.Simd.{length-zip2}
-use Rattle.px_arrays.proofs.Truth.{masked, and_within}
+use Rattle.px_arrays.proofs.BooleanRows.{masked, and_within}
 use Rattle.px_arrays.proofs.boolean_array.BooleanArray.masked.Goals as goal
 
 pub invariant_of-result : goal.invariant_of-result

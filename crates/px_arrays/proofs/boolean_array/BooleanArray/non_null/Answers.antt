@@ -1,6 +1,6 @@
 use Rattle.std.proofs.Common.{◌∙◌, sym, ap, length, replicate, true}
 use Rattle.std.proofs.lemmas.List.{length-replicate}
-use Rattle.px_arrays.proofs.Truth.{non_null_entries, non_null_within}
+use Rattle.px_arrays.proofs.BooleanRows.{non_null_entries, non_null_within}
 use Rattle.px_arrays.proofs.boolean_array.BooleanArray.non_null.Goals as goal
 
 pub invariant_of-result : goal.invariant_of-result

@@ -1,4 +1,4 @@
-use Rattle.px_arrays.proofs.Truth.{have_rows, opposite}
+use Rattle.px_arrays.proofs.BooleanRows.{have_rows, opposite}
 use Rattle.px_arrays.proofs.boolean_array.BooleanArray.not.Goals as goal
 
 pub invariant_of-result : goal.invariant_of-result

@@ -1,18 +1,18 @@
 use Rattle.std.proofs.Common.{◌&&◌, ◌||◌}
-use Rattle.px_arrays.proofs.Truth.{have_rows, same_truths, kleene}
+use Rattle.px_arrays.proofs.BooleanRows.{have_rows, same_booleans, kleene}
 use Rattle.px_arrays.proofs.boolean_array.BooleanArray.or.Goals as goal
 
 pub or-requires : goal.or-requires
 or-requires c =
     let mine = have_rows c.self.inside.truth c.self.inside.valid c.args.self.now c.self.invariant c.self.view_is in
     let others = have_rows c.other.inside.truth c.other.inside.valid c.args.other.now c.other.invariant c.other.view_is in
-    same_truths mine others c.requires
+    same_booleans mine others c.requires
 
 pub or_validity-requires-clause-same_length : goal.or_validity-requires-clause-same_length
 or_validity-requires-clause-same_length c =
     let mine = have_rows c.self.inside.truth c.self.inside.valid c.args.self.now c.self.invariant c.self.view_is in
     let others = have_rows c.other.inside.truth c.other.inside.valid c.args.other.now c.other.invariant c.other.view_is in
-    same_truths mine others c.requires
+    same_booleans mine others c.requires
 
 pub invariant_of-result : goal.invariant_of-result
 invariant_of-result c =

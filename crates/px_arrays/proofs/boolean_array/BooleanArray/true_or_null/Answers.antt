@@ -1,4 +1,4 @@
-use Rattle.px_arrays.proofs.Truth.{have_rows, with_null_or}
+use Rattle.px_arrays.proofs.BooleanRows.{have_rows, with_null_or}
 use Rattle.px_arrays.proofs.boolean_array.BooleanArray.true_or_null.Goals as goal
 
 pub invariant_of-result : goal.invariant_of-result

@@ -1,6 +1,6 @@
 use Rattle.std.proofs.Common.{◌∙◌, sym, ap, map}
 use Rattle.px_semantics.specs.Logic.{is_true}
-use Rattle.px_arrays.proofs.Truth.{bitmaps_true}
+use Rattle.px_arrays.proofs.BooleanRows.{bitmaps_true}
 use Rattle.px_arrays.proofs.boolean_array.BooleanArray.truth.Goals as goal
 
 pub returns : goal.returns

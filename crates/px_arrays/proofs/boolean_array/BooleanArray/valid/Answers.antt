@@ -1,5 +1,5 @@
 use Rattle.std.proofs.Common.{◌∙◌, sym, ap, map, is_some}
-use Rattle.px_arrays.proofs.Truth.{bitmaps_valid}
+use Rattle.px_arrays.proofs.BooleanRows.{bitmaps_valid}
 use Rattle.px_arrays.proofs.boolean_array.BooleanArray.valid.Goals as goal
 
 pub returns : goal.returns

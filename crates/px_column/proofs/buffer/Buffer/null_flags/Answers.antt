@@ -8,7 +8,7 @@ use Rattle.px_column.proofs.buffer.Buffer.null_flags.Goals as goal
 pub returns-in-Some : goal.returns-in-Some
 returns-in-Some c =
     let rows = rows_of c.args.self.now in
-    IfOk-weaker c.certain_not.result _ _ (λ r e. e ∙ ap (λ l. map non_null (map not l)) c.in-Some.ensures.bits ∙ missing_flags rows) c.certain_not.ensures
+    IfOk-weaker c.complement_of.result _ _ (λ r e. e ∙ ap (λ l. map non_null (map not l)) c.in-Some.ensures.bits ∙ missing_flags rows) c.complement_of.ensures
 
 pub returns-in_ok-filled-in-None : goal.returns-in_ok-filled-in-None
 returns-in_ok-filled-in-None c =

@@ -1,4 +1,4 @@
-use Rattle.px_base.specs.Exact.{same-answers}
+use Rattle.px_base.proofs.Exact.{same-answers}
 use Rattle.px_column.specs.contracts.column.Column.{the_row}
 use Rattle.px_column.proofs.same.ColumnPartialEq.eq.Goals as goal
 

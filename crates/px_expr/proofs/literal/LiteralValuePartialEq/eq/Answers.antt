@@ -1,4 +1,4 @@
-use Rattle.px_base.specs.Exact.{same-answers}
+use Rattle.px_base.proofs.Exact.{same-answers}
 use Rattle.px_expr.specs.contracts.literal.LiteralValue.{the_row}
 use Rattle.px_expr.proofs.literal.LiteralValuePartialEq.eq.Goals as goal
 

@@ -1,4 +1,4 @@
-use Rattle.px_base.specs.Exact.{same-answers}
+use Rattle.px_base.proofs.Exact.{same-answers}
 use Rattle.px_types.specs.contracts.dtype.DataType.{the_row}
 use Rattle.px_types.proofs.same.DataTypePartialEq.eq.Goals as goal
 

@@ -1,5 +1,5 @@
 use Rattle.std.proofs.Common.{◌≡◌, take}
-use Rattle.px_column.proofs.same.same_texts.Given as goal
+use Rattle.px_column.proofs.same.same_booleans.Given as goal
 
 abbrev pub invariant-loop-i : goal.invariant-loop-i
 invariant-loop-i l = take l.i l.a ≡ take l.i l.b

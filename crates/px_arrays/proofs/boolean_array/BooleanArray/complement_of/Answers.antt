@@ -1,6 +1,6 @@
 use Rattle.std.proofs.Common.{◌∙◌, ap, replicate, true}
-use Rattle.px_arrays.proofs.Truth.{complement_entries}
-use Rattle.px_arrays.proofs.boolean_array.BooleanArray.certain_not.Goals as goal
+use Rattle.px_arrays.proofs.BooleanRows.{complement_entries}
+use Rattle.px_arrays.proofs.boolean_array.BooleanArray.complement_of.Goals as goal
 
 pub invariant_of-result : goal.invariant_of-result
 invariant_of-result c =

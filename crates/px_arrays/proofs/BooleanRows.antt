@@ -3,7 +3,7 @@ use Rattle.std.proofs.Common.{sym, ◌<◌, Option, Some, map, is_some, unwrap_o
 use Rattle.std.specs.Simd.Lanes.{zip2, Each1}
 use Rattle.std.proofs.lemmas.List.{length-map, length-replicate, map-id}
 use Rattle.std.proofs.lemmas.Simd.{length-zip2, zip2_splat_left}
-use Rattle.px_semantics.specs.Rows.{Row, boolean_entry, boolean_row, Truth, Text, Integer, IsRowOf}
+use Rattle.px_semantics.specs.Rows.{Row, boolean_entry, boolean_row, BooleanValue, StringValue, IntegerValue, IsRowOf}
 use Rattle.px_types.specs.declared.value_type.ValueType.TheVariants.{Boolean}
 use Rattle.px_types.specs.declared.operator.Operator.{Operator}
 use Rattle.px_types.specs.declared.operator.Operator.TheVariants.{And, Or, Xor}
@@ -58,16 +58,16 @@ and_within (f ∷ fs) [] = refl
 and_within (f ∷ fs) (v ∷ vs) = let here = twice_and f v in let rest = and_within fs vs in cc
 
 -- each row is null or a Boolean
-pub truths_typed : (ts vs : List Bool) → Each1 (IsRowOf Boolean) (zip2 boolean_entry ts vs)
-truths_typed [] vs = tt
-truths_typed (t ∷ ts) [] = tt
-truths_typed (t ∷ ts) (true ∷ vs) = (tt, truths_typed ts vs)
-truths_typed (t ∷ ts) (false ∷ vs) = (tt, truths_typed ts vs)
+pub booleans_typed : (ts vs : List Bool) → Each1 (IsRowOf Boolean) (zip2 boolean_entry ts vs)
+booleans_typed [] vs = tt
+booleans_typed (t ∷ ts) [] = tt
+booleans_typed (t ∷ ts) (true ∷ vs) = (tt, booleans_typed ts vs)
+booleans_typed (t ∷ ts) (false ∷ vs) = (tt, booleans_typed ts vs)
 
 -- a row that is repeated, bitmap by bitmap
-truths_repeated : (n : ℕ) (t v : Bool) → zip2 boolean_entry (replicate n t) (replicate n v) ≡ replicate n (boolean_entry t v)
-truths_repeated zero t v = refl
-truths_repeated (suc n) t v = ap (λ l. boolean_entry t v ∷ l) (truths_repeated n t v)
+booleans_repeated : (n : ℕ) (t v : Bool) → zip2 boolean_entry (replicate n t) (replicate n v) ≡ replicate n (boolean_entry t v)
+booleans_repeated zero t v = refl
+booleans_repeated (suc n) t v = ap (λ l. boolean_entry t v ∷ l) (booleans_repeated n t v)
 
 repeated_within : (n : ℕ) (t v : Bool) → t && v ≡ t → zip2 (λ t v. t && v) (replicate n t) (replicate n v) ≡ replicate n t
 repeated_within zero t v h = refl
@@ -123,8 +123,8 @@ pub record HaveRows (truth valid : List Bool) (rows : List Row) : Type 0 where
 pub have_rows : (truth valid : List Bool) (xs : List Row) → AreBitmaps truth valid → zip2 boolean_entry truth valid ≡ xs → HaveRows truth valid xs
 have_rows truth valid xs p e = record { inv = p; is = e }
 
-pub same_truths : {ts vs us ws : List Bool} {xs ys : List Row} → HaveRows ts vs xs → HaveRows us ws ys → length xs ≡ length ys → length ts ≡ length us
-same_truths {ts} {vs} {us} {ws} p q h = sym (length-booleans ts vs p.inv) ∙ ap length p.is ∙ h ∙ sym (ap length q.is) ∙ length-booleans us ws q.inv
+pub same_booleans : {ts vs us ws : List Bool} {xs ys : List Row} → HaveRows ts vs xs → HaveRows us ws ys → length xs ≡ length ys → length ts ≡ length us
+same_booleans {ts} {vs} {us} {ws} p q h = sym (length-booleans ts vs p.inv) ∙ ap length p.is ∙ h ∙ sym (ap length q.is) ∙ length-booleans us ws q.inv
 
 trues : {ts vs : List Bool} {xs : List Row} → HaveRows ts vs xs → ts ≡ map is_true xs
 trues {ts} {vs} p = sym (bitmaps_true ts vs p.inv) ∙ ap (map is_true) p.is
@@ -224,22 +224,22 @@ opposite {ts} {vs} truth valid p e k =
     rw (e, k) (record { inv = made.inv; is = made.is ∙ ap (map not_row) p.is })
 
 -- two functions that agree on null, true and false
-pub rows_agree : (f g : Row → Row) → f None ≡ g None → f (Some (Truth true)) ≡ g (Some (Truth true)) → f (Some (Truth false)) ≡ g (Some (Truth false))
+pub rows_agree : (f g : Row → Row) → f None ≡ g None → f (Some (BooleanValue true)) ≡ g (Some (BooleanValue true)) → f (Some (BooleanValue false)) ≡ g (Some (BooleanValue false))
     → (xs : List Row) → Each1 (IsRowOf Boolean) xs → map f xs ≡ map g xs
 rows_agree f g n t u [] h = refl
 rows_agree f g n t u (None ∷ xs) h = let rest = rows_agree f g n t u xs h.1 in cc
-rows_agree f g n t u (Some (Truth true) ∷ xs) h = let rest = rows_agree f g n t u xs h.1 in cc
-rows_agree f g n t u (Some (Truth false) ∷ xs) h = let rest = rows_agree f g n t u xs h.1 in cc
-rows_agree f g n t u (Some (Text s) ∷ xs) h = absurd h.0
-rows_agree f g n t u (Some (Integer z) ∷ xs) h = absurd h.0
+rows_agree f g n t u (Some (BooleanValue true) ∷ xs) h = let rest = rows_agree f g n t u xs h.1 in cc
+rows_agree f g n t u (Some (BooleanValue false) ∷ xs) h = let rest = rows_agree f g n t u xs h.1 in cc
+rows_agree f g n t u (Some (StringValue s) ∷ xs) h = absurd h.0
+rows_agree f g n t u (Some (IntegerValue z) ∷ xs) h = absurd h.0
 
 -- a function that keeps null, true and false
-pub rows_kept : (f : Row → Row) → None ≡ f None → Some (Truth true) ≡ f (Some (Truth true)) → Some (Truth false) ≡ f (Some (Truth false))
+pub rows_kept : (f : Row → Row) → None ≡ f None → Some (BooleanValue true) ≡ f (Some (BooleanValue true)) → Some (BooleanValue false) ≡ f (Some (BooleanValue false))
     → (xs : List Row) → Each1 (IsRowOf Boolean) xs → xs ≡ map f xs
 rows_kept f n t u xs h = sym (map-id xs) ∙ rows_agree (λ x. x) f n t u xs h
 
 -- a function that gives one row for each
-pub rows_constant : (f : Row → Row) (row : Row) (len : ℕ) → row ≡ f None → row ≡ f (Some (Truth true)) → row ≡ f (Some (Truth false))
+pub rows_constant : (f : Row → Row) (row : Row) (len : ℕ) → row ≡ f None → row ≡ f (Some (BooleanValue true)) → row ≡ f (Some (BooleanValue false))
     → (xs : List Row) → Each1 (IsRowOf Boolean) xs → len ≡ length xs → replicate len row ≡ map f xs
 rows_constant f row len n t u xs h e = ap (λ k. replicate k row) e ∙ sym (map-const row xs) ∙ rows_agree (λ _. row) f n t u xs h
 
@@ -261,7 +261,7 @@ value_repeated n value truth valid e k = rw (e, k) (record {
     same_length = length-replicate n (unwrap_or value false) ∙ sym (length-replicate n (is_some value));
     within = repeated_within n (unwrap_or value false) (is_some value) (value_within value);
   };
-  is = truths_repeated n (unwrap_or value false) (is_some value) ∙ ap (replicate n) (value_entry value);
+  is = booleans_repeated n (unwrap_or value false) (is_some value) ∙ ap (replicate n) (value_entry value);
 })
 
 false_entry_or_null : (t v : Bool) → t && v ≡ t → boolean_entry false (cond t (not v) v) ≡ and_row (boolean_entry t v) None
@@ -367,16 +367,16 @@ complement_entries flags truth valid k e =
     }
 
 -- row i, by its two bits
-pub truth_at : (ts vs : List Bool) (i : ℕ) (t v : Bool) → length ts ≡ length vs → i < length vs → t ≡ get_or ts i false → v ≡ get_or vs i false
+pub boolean_entry_at : (ts vs : List Bool) (i : ℕ) (t v : Bool) → length ts ≡ length vs → i < length vs → t ≡ get_or ts i false → v ≡ get_or vs i false
     → boolean_entry t v ≡ get_or (zip2 boolean_entry ts vs) i None
-truth_at [] [] i t v h l e f = absurd (omega arith)
-truth_at [] (y ∷ vs) i t v h l e f = cc
-truth_at (x ∷ ts) [] i t v h l e f = cc
-truth_at (x ∷ ts) (y ∷ vs) zero t v h l e f = ap (λ a. boolean_entry a v) e ∙ ap (boolean_entry x) f
-truth_at (x ∷ ts) (y ∷ vs) (suc i) t v h l e f = truth_at ts vs i t v (omega arith) (omega arith) e f
+boolean_entry_at [] [] i t v h l e f = absurd (omega arith)
+boolean_entry_at [] (y ∷ vs) i t v h l e f = cc
+boolean_entry_at (x ∷ ts) [] i t v h l e f = cc
+boolean_entry_at (x ∷ ts) (y ∷ vs) zero t v h l e f = ap (λ a. boolean_entry a v) e ∙ ap (boolean_entry x) f
+boolean_entry_at (x ∷ ts) (y ∷ vs) (suc i) t v h l e f = boolean_entry_at ts vs i t v (omega arith) (omega arith) e f
 
 -- rows of optional Booleans
 pub option_entries : (values : List (Option Bool)) → zip2 boolean_entry (map (λ v. unwrap_or v false) values) (map is_some values) ≡ map boolean_row values
 option_entries [] = refl
-option_entries (Some t ∷ values) = ap (λ l. Some (Truth t) ∷ l) (option_entries values)
+option_entries (Some t ∷ values) = ap (λ l. Some (BooleanValue t) ∷ l) (option_entries values)
 option_entries (None ∷ values) = ap (λ l. None ∷ l) (option_entries values)
