@@ -22,7 +22,7 @@ use Rattle.px_forms.specs.Written.{all_data}
 use Rattle.px_forms.proofs.HasForms.{checked_list_has_forms}
 use Rattle.px_document.specs.declared.document.Document.{Document}
 use Rattle.px_app.specs.declared.status.TheConstants.{ANSWERED, REFUSED}
-use Rattle.px_app.specs.declared.reply.Reply.{Reply}
+use Rattle.px_app.specs.declared.reply.Answer.{Answer}
 use Rattle.px_document.specs.Report.{line, error_data}
 use Rattle.px_app.specs.Answers.{catalog, check_of, meaning_of, IsAnswered, IsFault, IsExpected}
 use Rattle.px_eval.specs.Own.{frame_catalog}
@@ -141,13 +141,13 @@ run_of_exprs kernels context d exprs r rise is run =
     subst (λ (es : List Expr). Runs kernels context (record { frame = d.frame; exprs = record { entries = es } }) r rise) is run
 
 -- what is expected where a document is refused
-pub refusal_is_expected : (context : Context) (d : Document) (e : PlanError) (r : Result Reply PlanError) → (e ≢ OutOfMemory → IsFault context d e)
+pub refusal_is_expected : (context : Context) (d : Document) (e : PlanError) (r : Result Answer PlanError) → (e ≢ OutOfMemory → IsFault context d e)
     → IfOk r (λ _. e ≢ OutOfMemory) → IfOk r (λ reply. reply.status ≡ REFUSED) → IfOk r (λ reply. reply.text.items ≡ line (error_data e))
     → IfOk r (λ reply. IsReplyTo context d reply.status reply.text.items)
 refusal_is_expected context d e (Ok reply) fault other status text = inr (status, record { fault = e; faults = fault other; writes = text })
 refusal_is_expected context d e (Err f) fault other status text = tt
 
-pub refusal_status : (context : Context) (d : Document) (e : PlanError) (r : Result Reply PlanError) → (e ≢ OutOfMemory → status_of_document context (Some d) ≡ REFUSED)
+pub refusal_status : (context : Context) (d : Document) (e : PlanError) (r : Result Answer PlanError) → (e ≢ OutOfMemory → status_of_document context (Some d) ≡ REFUSED)
     → IfOk r (λ _. e ≢ OutOfMemory) → IfOk r (λ reply. reply.status ≡ REFUSED) → IfOk r (λ reply. reply.status ≡ status_of_document context (Some d))
 refusal_status context d e (Ok reply) refused other status = status ∙ sym (refused other)
 refusal_status context d e (Err f) refused other status = tt

@@ -1,9 +1,11 @@
 -- What a run wrote, where the words and the source tell enough.
-use Rattle.std.specs.Prelude.{ℕ, ◌≡◌, ◌⊎◌, ◌<◌, List, length, take, IfSome, Option, Some}
+use Rattle.std.specs.Prelude.{ℕ, ◌≡◌, ◌≢◌, ◌⊎◌, ◌<◌, List, [], length, take, IfSome, Option, Some}
 use Rattle.std.specs.Io.KnownBytes.{Appends}
 use Rattle.px_expr.specs.declared.context.Context.{Context}
-use Rattle.px_app.specs.declared.status.TheConstants.{ANSWERED, REFUSED}
-use Rattle.px_app.specs.Answers.{IsReportOf, IsErrorLineOf}
+use Rattle.px_streams.specs.declared.source.TheConstants.{LIMIT}
+use Rattle.px_app.specs.declared.status.TheConstants.{ANSWERED, REFUSED, NO_MEMORY}
+use Rattle.px_app.specs.Answers.{IsReportOf, IsErrorLineOf, IsReport, IsErrorLine}
+use Rattle.px_app.specs.Statuses.{status_of}
 use Rattle.px_document.specs.declared.document.Document.{Document}
 use Rattle.px_document.specs.Document.{document_of_bytes}
 
@@ -26,3 +28,11 @@ IsReplyTo context d status text = ((status ≡ ANSWERED) × IsReportOf context d
 -- the status and the text that are expected for the bytes of a document
 abbrev pub IsReply : Context → List ℕ → ℕ → List ℕ → Type 0
 IsReply context bytes status text = (d : Document) × (document_of_bytes bytes ≡ Some d) × IsReplyTo context d status text
+
+-- The status and the text are an answer to the bytes: at ANSWERED the text is the report, at REFUSED the line of a
+-- fault, else there is none. The status is that of the bytes, but for out of memory.
+pub record IsAnswerTo (context : Context) (bytes : List ℕ) (status : ℕ) (text : List ℕ) : Type 0 where
+  pub answered : status ≡ ANSWERED → IsReport context bytes text
+  pub refused : status ≡ REFUSED → IsErrorLine context bytes text
+  pub no_text : status ≢ ANSWERED → status ≢ REFUSED → text ≡ []
+  pub of_bytes : (status ≡ status_of LIMIT context bytes) ⊎ (status ≡ NO_MEMORY)

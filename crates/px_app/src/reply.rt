@@ -17,11 +17,13 @@ use px_types::{PlanError, Steps};
 use std::alloc::Global;
 use std::sync::ledger::Ledger;
 
-/// A status, and the text that is expected.
+/// What is answered to a document.
 #[derive(Drop)]
-pub(crate) struct Reply {
-    pub(crate) status: u8,
-    pub(crate) text: Vec<u8>,
+pub struct Answer {
+    /// How it ended, as an exit status.
+    pub status: u8,
+    /// The report or the line of a fault, with its line feed; empty where the status has none.
+    pub text: Vec<u8>,
 }
 
 /// What is expected for the bytes, or None where they are no document. They are dropped before the
@@ -31,7 +33,7 @@ pub(crate) fn reply_to<L: Ledger>(
     bytes: Vec<u8>,
     context: Context,
     steps: &mut Steps<L>,
-) -> Result<Option<Reply>, PlanError>
+) -> Result<Option<Answer>, PlanError>
     ensures reply { IfOk result (λ o. IfSome o (λ reply. IsReply context bytes.items reply.status reply.text.items)) }
     ensures status { IfOk result (λ o. IfSome o (λ reply. reply.status
         ≡ status_of_document context (spec.document_of_bytes bytes.items))) }
@@ -46,18 +48,18 @@ pub(crate) fn reply_to<L: Ledger>(
 }
 
 /// The report, or the line of a fault.
-fn reply_to_document<L: Ledger>(
+pub(crate) fn reply_to_document<L: Ledger>(
     alloc: Global,
     document: Document,
     context: Context,
     steps: &mut Steps<L>,
-) -> Result<Reply, PlanError>
+) -> Result<Answer, PlanError>
     ensures reply { IfOk result (λ reply. IsReplyTo context document reply.status reply.text.items) }
     ensures status { IfOk result (λ reply. reply.status ≡ status_of_document context (Some document)) }
     ensures err { IfErr result (λ e. e ≡ PlanError.OutOfMemory) }
 {
     match selected(alloc, document, context, steps) {
-        Ok(collected) => Ok(Reply {
+        Ok(collected) => Ok(Answer {
             status: ANSWERED,
             text: report_line(alloc, collected)?,
         }),
@@ -66,7 +68,7 @@ fn reply_to_document<L: Ledger>(
 }
 
 /// The line of a fault. Out of memory is none.
-fn refusal(alloc: Global, fault: PlanError) -> Result<Reply, PlanError>
+fn refusal(alloc: Global, fault: PlanError) -> Result<Answer, PlanError>
     ensures fault { IfOk result (λ _. fault ≢ PlanError.OutOfMemory) }
     ensures status { IfOk result (λ reply. reply.status ≡ REFUSED) }
     ensures line { IfOk result (λ reply. reply.text.items ≡ line (error_data fault)) }
@@ -74,7 +76,7 @@ fn refusal(alloc: Global, fault: PlanError) -> Result<Reply, PlanError>
 {
     match fault {
         PlanError::OutOfMemory => Err(PlanError::OutOfMemory),
-        fault => Ok(Reply {
+        fault => Ok(Answer {
             status: REFUSED,
             text: error_line(alloc, &fault)?,
         }),
