@@ -2,8 +2,8 @@
  *
  * Link libpx.a or libpx.so. Nothing is to be started or freed: a call keeps nothing when it returns,
  * and there is no state between calls. Calls may run in several threads at once, each with a buffer
- * of its own, and each on half a mebibyte of stack, which suffices for the deepest document. Of the C
- * library px takes malloc, realloc, free, memcpy, memmove, memset and memcmp.
+ * of its own, and each on half a mebibyte of stack, which sufficed for the deepest documents that are
+ * tested. Of the C library px takes malloc, realloc, free, memcpy, memmove, memset and memcmp.
  *
  * px_select and px_filter below are the calls to make. The README of the repository says what a
  * document, a report and an error line are.
