@@ -1,5 +1,5 @@
 -- Columns: fewer than 2^32 rows, each of them null or a value of the type.
-use Rattle.std.specs.Prelude.{◌<◌, ◌^◌, Bool, true, false, ◌&&◌, nat_lt, length, List, Some, None}
+use Rattle.std.specs.Prelude.{◌<◌, ◌^◌, Bool, true, ◌&&◌, nat_lt, length, List, Some, None}
 use Rattle.std.specs.List.{list_all}
 use Rattle.std.specs.Simd.Lanes.{Each1}
 use Rattle.px_types.specs.declared.value_type.ValueType.{ValueType}

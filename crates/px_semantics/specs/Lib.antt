@@ -10,3 +10,11 @@ pub mod Casts
 pub mod Fused
 pub mod Laws
 pub mod FusedLaws
+pub mod Aggregates
+pub mod Extremes
+pub mod Filters
+pub mod Slices
+pub mod Gathers
+pub mod Bits
+pub mod Bounds
+pub mod Horizontals

@@ -1,5 +1,5 @@
 -- A map from names to types, looked up as the list of its fields.
-use Rattle.std.proofs.Common.{◌≡◌, ◌∙◌, ◌+◌, ℕ, suc, Bool, not, nat_lt, true, false, cond, ◌||◌, List, [], ◌∷◌, ◌++◌, map, length, position, Option, Some, None, option_map, is_some, refl, sym, ap, subst, string_bytes, append_assoc, append-nil, if◌then◌else◌}
+use Rattle.std.proofs.Common.{◌≡◌, ◌∙◌, ◌+◌, ℕ, suc, Bool, not, nat_lt, true, false, cond, ◌||◌, List, [], ◌∷◌, ◌++◌, map, length, position, Option, Some, None, is_some, refl, sym, ap, string_bytes, append_assoc, append-nil, if◌then◌else◌}
 use Rattle.std.proofs.lemmas.List.{map-append}
 use Rattle.std.specs.List.{list_any, position_or_len}
 use Rattle.std.specs.Str.{bytes_eq}

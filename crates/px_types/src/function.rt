@@ -14,6 +14,20 @@ pub enum BooleanFunction {
     Not,
 }
 
+/// A function over the bits of values: a count for each row, or a reduction of all rows.
+#[derive(Clone, Copy, Debug, PartialEq, Eq, Hash)]
+pub enum BitwiseFunction {
+    CountOnes,
+    CountZeros,
+    LeadingOnes,
+    LeadingZeros,
+    TrailingOnes,
+    TrailingZeros,
+    And,
+    Or,
+    Xor,
+}
+
 /// A product and a sum or a difference in one step: `x + y * z`, `x - y * z` and `x * y - z`. They
 /// are Polars' `fma`, `fsm` and `fms`.
 #[derive(Clone, Copy, Debug, PartialEq, Eq, Hash)]

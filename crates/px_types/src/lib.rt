@@ -18,7 +18,7 @@ mod value_type;
 
 pub use any_value::{AnyValue, materialize_dyn_int};
 pub use dtype::{DataType, Field, FieldList, TypeList};
-pub use function::{BooleanFunction, FunctionExpr, FusedOperator};
+pub use function::{BitwiseFunction, BooleanFunction, FunctionExpr, FusedOperator};
 pub use laws::{
     common_is_commutative, common_is_idempotent, first_repeated_is_found, null_is_neutral,
     null_is_neutral_in_supertype, supertype_is_commutative, supertype_is_idempotent,
@@ -28,7 +28,7 @@ pub use options::{ApplyOptions, CastingRules, FmtName, FunctionFlags, FunctionOp
 pub use px_base::{Boxed, Items, List, PlanError, SmallStr, Steps, TryClone, boxed};
 pub use schema::Schema;
 pub use supertype::try_get_supertype;
-pub use type_parts::{CastOptions, QuantileMethod, TimeUnit, UnknownKind};
+pub use type_parts::{CastOptions, ClosedInterval, QuantileMethod, TimeUnit, UnknownKind};
 pub use value_type::{ValueType, default_type};
 
 #[cfg(test)]

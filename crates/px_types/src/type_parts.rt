@@ -46,3 +46,12 @@ pub enum QuantileMethod {
     Midpoint,
     Linear,
 }
+
+/// Which ends belong to an interval.
+#[derive(Clone, Copy, Debug, PartialEq, Eq, Hash)]
+pub enum ClosedInterval {
+    Both,
+    Left,
+    Right,
+    None,
+}
