@@ -2,3 +2,4 @@ pub mod ColumnOf
 pub mod FrameOf
 pub mod Values
 pub mod HashInput
+pub mod Buffers

@@ -10,7 +10,7 @@ use Rattle.px_semantics.specs.Rows.{TypedRows, elementwise}
 use Rattle.px_column.specs.ColumnOf.{type_of, rows_of}
 use Rattle.px_column.specs.declared.buffer.Buffer.{Buffer}
 use Rattle.px_column.proofs.KernelRows.{of_type, refused, logic_gives, logic_none}
-use Rattle.px_kernels.specs.Buffers.{values_of}
+use Rattle.px_column.specs.Buffers.{values_of}
 
 -- a buffer of this type and these rows
 pub buffer_is : (a : TypedRows) (b : Buffer) → type_of b ≡ a.value_type → rows_of b ≡ a.rows → values_of b ≡ a

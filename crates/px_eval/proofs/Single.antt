@@ -47,7 +47,7 @@ use Rattle.px_arena.specs.declared.node.ExprIR.{ExprIR}
 use Rattle.px_arena.specs.declared.node.Node.{Node}
 use Rattle.px_arena.specs.Denotes.{root_of, inputs_of, expr_places}
 use Rattle.px_column.specs.declared.buffer.Buffer.{Buffer}
-use Rattle.px_kernels.specs.Buffers as buffers
+use Rattle.px_column.specs.Buffers as buffers
 use Rattle.px_eval.specs.declared.table.Rows.{Rows}
 use Rattle.px_eval.specs.Table.{rows_at, values_of}
 use Rattle.px_eval.specs.Own.{frame_catalog, input_rows, IsReady, IsAnswer, IsReason, IsOwned, fault_of, node_gives, cast_at, TakesTwo, TakesOne, IsFunction, IsOfOne}

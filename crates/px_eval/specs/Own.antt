@@ -27,7 +27,7 @@ use Rattle.px_arena.specs.Denotes.{root_of, inputs_of}
 use Rattle.px_arena.specs.declared.node.AExpr.TheVariants as ir
 use Rattle.px_arena.specs.declared.node.ExprIR.{ExprIR}
 use Rattle.px_column.specs.declared.buffer.Buffer.{Buffer}
-use Rattle.px_kernels.specs.Buffers as buffers
+use Rattle.px_column.specs.Buffers as buffers
 use Rattle.px_eval.specs.declared.table.Rows.{Rows}
 use Rattle.px_eval.specs.Table.{rows_at, values_of}
 

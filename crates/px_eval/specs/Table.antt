@@ -3,7 +3,7 @@ use Rattle.std.specs.Prelude.{◌≡◌, ℕ, List, Option, None, Result, Ok, Er
 use Rattle.px_base.specs.declared.error.PlanError.{PlanError}
 use Rattle.px_base.specs.declared.error.PlanError.TheVariants.{OutOfMemory}
 use Rattle.px_semantics.specs.Rows.{TypedRows}
-use Rattle.px_kernels.specs.Buffers as buffers
+use Rattle.px_column.specs.Buffers as buffers
 use Rattle.px_eval.specs.declared.table.Rows.{Rows}
 use Rattle.px_eval.specs.declared.table.Rows.TheVariants as rows
 

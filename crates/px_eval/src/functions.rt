@@ -6,7 +6,7 @@ ghost use Rattle.px_semantics.specs.Logic.{null_row, value_row, tested_rows, inv
 ghost use Rattle.px_semantics.specs.Rows.{IsBoolean};
 ghost use Rattle.px_types.specs.Integers.{IsInteger};
 ghost use Rattle.px_column.specs.ColumnOf.{type_of};
-ghost use Rattle.px_kernels.specs.Buffers.{values_of};
+ghost use Rattle.px_column.specs.Buffers.{values_of};
 ghost use Rattle.px_meaning.specs.Mean.{function_rows};
 ghost use Rattle.px_eval.specs.Own.{TakesOne};
 

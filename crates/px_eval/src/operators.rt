@@ -8,7 +8,7 @@ ghost use Rattle.px_semantics.specs.Rows.{IsBoolean};
 ghost use Rattle.px_types.specs.Integers.{IsInteger};
 ghost use Rattle.px_types.specs.ValueTypes.{value_type_of};
 ghost use Rattle.px_column.specs.ColumnOf.{type_of};
-ghost use Rattle.px_kernels.specs.Buffers.{values_of};
+ghost use Rattle.px_column.specs.Buffers.{values_of};
 ghost use Rattle.px_meaning.specs.Mean.{group_rows};
 ghost use Rattle.px_meaning.specs.Signatures.{group_of};
 ghost use Rattle.px_eval.specs.Own.{TakesTwo};

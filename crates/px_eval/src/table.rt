@@ -1,7 +1,7 @@
 //! The rows that places of an arena mean, each kept once.
 ghost use Rattle.std.specs.Prelude.{◌≡◌, ◌<◌, length, slice_set, replicate, Some, None, IfOk, IfErr, IsSome};
 ghost use Rattle.px_base.specs.Answer.{GivesOrMemory};
-ghost use Rattle.px_kernels.specs.Buffers as buffers;
+ghost use Rattle.px_column.specs.Buffers as buffers;
 ghost use Rattle.px_eval.specs.Table.{values_of, rows_at, GivesValues};
 
 use px_arena::Node;

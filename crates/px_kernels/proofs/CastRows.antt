@@ -28,7 +28,7 @@ use Rattle.px_types.specs.declared.value_type.ValueType.TheVariants as value_typ
 use Rattle.px_column.specs.ColumnOf.{type_of, rows_of}
 use Rattle.px_column.specs.declared.buffer.Buffer.{Buffer}
 use Rattle.px_column.specs.declared.buffer.Buffer.TheVariants as buffer
-use Rattle.px_kernels.specs.Buffers.{values_of}
+use Rattle.px_column.specs.Buffers.{values_of}
 use Rattle.px_kernels.specs.Casting.{number_in_range, bits_in_range, any_bit_lost, CastsAll}
 use Rattle.px_semantics.proofs.Joining.{of_type}
 

@@ -22,7 +22,7 @@ use Rattle.px_base.specs.declared.error.PlanError.{PlanError}
 use Rattle.px_base.specs.declared.error.PlanError.TheVariants.{ShapeMismatch}
 use Rattle.px_column.specs.ColumnOf.{type_of, rows_of}
 use Rattle.px_column.specs.declared.buffer.Buffer.{Buffer}
-use Rattle.px_kernels.specs.Buffers.{values_of}
+use Rattle.px_column.specs.Buffers.{values_of}
 use Rattle.px_kernels.proofs.KernelRows.{refused}
 use Rattle.px_kernels.specs.FusedPlaces.{all_valid, fused_places}
 

@@ -13,7 +13,7 @@ use Rattle.px_semantics.specs.Rows.{Row, TypedRows, elementwise}
 use Rattle.px_column.specs.ColumnOf.{type_of, rows_of}
 use Rattle.px_column.specs.declared.buffer.Buffer.{Buffer}
 use Rattle.px_semantics.proofs.Joining.{of_type}
-use Rattle.px_kernels.specs.Buffers.{values_of}
+use Rattle.px_column.specs.Buffers.{values_of}
 
 -- a refusal for a cause that brings another
 pub refused : {P Q : Type 0} (e : PlanError) → (P → Q) → (e ≡ OutOfMemory) ⊎ ((e ≡ ShapeMismatch) × P) → (e ≡ OutOfMemory) ⊎ ((e ≡ ShapeMismatch) × Q)

@@ -1,4 +1,3 @@
-pub mod Buffers
 pub mod Matches
 pub mod OperandTypes
 pub mod SelectedPlaces

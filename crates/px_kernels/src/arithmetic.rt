@@ -5,7 +5,7 @@ ghost use Rattle.px_semantics.specs.Arithmetic.{arith_row, negate_rows};
 ghost use Rattle.px_types.specs.Integers.{into, IsInteger};
 ghost use Rattle.px_semantics.specs.Rows.{on_integer, elementwise};
 ghost use Rattle.px_column.specs.ColumnOf.{type_of, rows_of};
-ghost use Rattle.px_kernels.specs.Buffers.{values_of};
+ghost use Rattle.px_column.specs.Buffers.{values_of};
 ghost use Rattle.px_kernels.specs.OperandTypes.{IsRing, IsSigned};
 
 use crate::arms::integers;

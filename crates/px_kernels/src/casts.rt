@@ -11,7 +11,7 @@ ghost use Rattle.px_types.specs.declared.type_parts.CastOptions.{CastOptions};
 ghost use Rattle.px_types.specs.declared.type_parts.CastOptions.TheVariants as option;
 ghost use Rattle.px_types.specs.declared.value_type.ValueType.TheVariants as value_type;
 ghost use Rattle.px_column.specs.ColumnOf.{type_of, rows_of};
-ghost use Rattle.px_kernels.specs.Buffers.{values_of};
+ghost use Rattle.px_column.specs.Buffers.{values_of};
 ghost use Rattle.px_kernels.specs.Casting.{number_in_range, bits_in_range, any_bit_lost, CastsAll};
 
 use crate::arms::integers;

@@ -4,7 +4,7 @@ ghost use Rattle.px_base.specs.Answer.{GivesOr};
 ghost use Rattle.std.specs.Simd.Lanes.{zip2};
 ghost use Rattle.px_semantics.specs.Comparisons.{less, equal, test_row, compare_row, compare_rows, IsComparison};
 ghost use Rattle.px_column.specs.ColumnOf.{type_of, rows_of};
-ghost use Rattle.px_kernels.specs.Buffers.{values_of};
+ghost use Rattle.px_column.specs.Buffers.{values_of};
 ghost use Rattle.px_kernels.specs.Matches.{match_row, mismatch_row};
 
 use crate::arms::integers;

@@ -6,7 +6,7 @@ ghost use Rattle.px_types.specs.Integers.{into, IsInteger};
 ghost use Rattle.px_types.specs.declared.function.FusedOperator.{FusedOperator};
 ghost use Rattle.px_types.specs.declared.function.FusedOperator.TheVariants as form;
 ghost use Rattle.px_column.specs.ColumnOf.{type_of, rows_of};
-ghost use Rattle.px_kernels.specs.Buffers.{values_of};
+ghost use Rattle.px_column.specs.Buffers.{values_of};
 ghost use Rattle.px_kernels.specs.FusedPlaces.{all_valid, fused_places};
 
 use crate::arithmetic::ring_buffers;

@@ -6,7 +6,7 @@ ghost use Rattle.px_semantics.specs.Arithmetic.{arith_rows, lift_nonzero, nonzer
 ghost use Rattle.px_types.specs.Integers.{IsInteger};
 ghost use Rattle.px_semantics.specs.Rows.{elementwise};
 ghost use Rattle.px_column.specs.ColumnOf.{type_of, rows_of};
-ghost use Rattle.px_kernels.specs.Buffers.{values_of};
+ghost use Rattle.px_column.specs.Buffers.{values_of};
 ghost use Rattle.px_integers.specs.Quotients.{quotient_of, remainder_of};
 
 use crate::arithmetic::ring_buffers;

@@ -5,7 +5,7 @@ ghost use Rattle.px_base.specs.Answer.{GivesOrMemory, GivesOr};
 ghost use Rattle.px_semantics.specs.Selections.{select_row, select_all, select_rows};
 ghost use Rattle.px_semantics.specs.Logic.{is_true};
 ghost use Rattle.px_semantics.specs.Rows.{IsBoolean, string_row};
-ghost use Rattle.px_kernels.specs.Buffers.{values_of};
+ghost use Rattle.px_column.specs.Buffers.{values_of};
 ghost use Rattle.px_kernels.specs.SelectedPlaces.{selected_bits, selected_places};
 ghost use Rattle.px_column.specs.ColumnOf.{type_of, rows_of};
 

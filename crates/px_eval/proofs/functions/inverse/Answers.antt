@@ -1,5 +1,5 @@
 use Rattle.px_semantics.specs.Logic.{inverse_rows}
-use Rattle.px_kernels.specs.Buffers.{values_of}
+use Rattle.px_column.specs.Buffers.{values_of}
 use Rattle.px_eval.proofs.Kernels.{answer_is}
 use Rattle.px_eval.proofs.functions.inverse.Goals as goal
 

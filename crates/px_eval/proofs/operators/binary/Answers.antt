@@ -3,7 +3,7 @@ use Rattle.px_types.specs.declared.operator.Operator.{Operator}
 use Rattle.px_meaning.specs.Mean.{group_rows}
 use Rattle.px_meaning.specs.Signatures.{group_of, group_type}
 use Rattle.px_base.specs.declared.error.PlanError.TheVariants.{ShapeMismatch}
-use Rattle.px_kernels.specs.Buffers.{values_of}
+use Rattle.px_column.specs.Buffers.{values_of}
 use Rattle.px_base.specs.Answer.{GivesOr}
 use Rattle.px_base.proofs.Answers.{gives_as}
 use Rattle.px_eval.proofs.Single.{logical_and, logical_or}

@@ -1,4 +1,4 @@
-use Rattle.px_kernels.specs.Buffers.{values_of}
+use Rattle.px_column.specs.Buffers.{values_of}
 use Rattle.px_eval.proofs.Kernels.{logic_answer}
 use Rattle.px_eval.proofs.operators.logic.Goals as goal
 

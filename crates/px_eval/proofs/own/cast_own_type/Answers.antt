@@ -1,7 +1,7 @@
 use Rattle.std.proofs.Common.{◌≡◌, Some, rules}
 use Rattle.px_types.specs.ValueTypes.{value_type_of}
 use Rattle.px_column.specs.ColumnOf.{type_of}
-use Rattle.px_kernels.specs.Buffers.{values_of}
+use Rattle.px_column.specs.Buffers.{values_of}
 use Rattle.px_eval.specs.Table.{rows_at}
 use Rattle.px_eval.proofs.Single.{shared_cast}
 use Rattle.px_eval.proofs.own.cast_own_type.Goals as goal

@@ -4,7 +4,7 @@ use Rattle.px_semantics.specs.Fused.{fused_rows}
 use Rattle.px_types.specs.Integers.{IsInteger}
 use Rattle.px_base.specs.declared.error.PlanError.TheVariants.{ShapeMismatch}
 use Rattle.px_arena.specs.Denotes.{inputs_of}
-use Rattle.px_kernels.specs.Buffers.{values_of}
+use Rattle.px_column.specs.Buffers.{values_of}
 use Rattle.px_eval.proofs.Single.{Case, three_inputs, place_is, rows_at_place, read_at, owned_ok, owned_err}
 use Rattle.px_eval.proofs.own.own_fused.Goals as goal
 

@@ -2,7 +2,7 @@ use Rattle.std.proofs.Common.{[], ◌∷◌, length, ap, sym, subst, arith}
 use Rattle.px_semantics.specs.Rows.{TypedRows}
 use Rattle.px_base.specs.declared.error.PlanError.TheVariants.{ShapeMismatch}
 use Rattle.px_meaning.specs.Mean.{function_rows}
-use Rattle.px_kernels.specs.Buffers.{values_of}
+use Rattle.px_column.specs.Buffers.{values_of}
 use Rattle.px_eval.specs.Own.{TakesOne}
 use Rattle.px_eval.proofs.Single.{Case, one_input, one_read, one_held, owned_ok, owned_err}
 use Rattle.px_eval.proofs.own.own_one.Goals as goal

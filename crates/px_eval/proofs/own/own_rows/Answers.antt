@@ -1,7 +1,7 @@
 use Rattle.std.proofs.Common.{◌≡◌, ◌∙◌, sym, ap, Some, None}
 use Rattle.std.specs.Option.{option_copied}
 use Rattle.px_semantics.specs.Frames.{column_named}
-use Rattle.px_kernels.specs.Buffers.{values_of}
+use Rattle.px_column.specs.Buffers.{values_of}
 use Rattle.px_eval.proofs.Single.{outside, binary_case, cast_case, ternary_case, alias_case, column_case, column_there, literal_typed, literal_case, shared_ok, cast_ok, given_err, owned_ok, owned_err}
 use Rattle.px_base.proofs.Answers as refusal
 use Rattle.px_base.specs.declared.error.PlanError.TheVariants.{InvalidCast}

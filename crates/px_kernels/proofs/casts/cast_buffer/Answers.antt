@@ -1,5 +1,5 @@
 use Rattle.std.proofs.Common.{◌∙◌, sym}
-use Rattle.px_kernels.specs.Buffers.{values_of}
+use Rattle.px_column.specs.Buffers.{values_of}
 use Rattle.px_kernels.proofs.CastRows.{cast_answer}
 use Rattle.px_kernels.proofs.casts.cast_buffer.Goals as goal
 

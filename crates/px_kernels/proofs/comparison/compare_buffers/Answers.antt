@@ -2,7 +2,7 @@ use Rattle.std.proofs.Common.{◌∙◌, inr, sym, refl, length}
 use Rattle.px_semantics.specs.Comparisons.{compare_row}
 use Rattle.px_column.specs.ColumnOf.{rows_of}
 use Rattle.px_semantics.proofs.Joining.{broadcasts_to}
-use Rattle.px_kernels.specs.Buffers.{values_of}
+use Rattle.px_column.specs.Buffers.{values_of}
 use Rattle.px_kernels.proofs.KernelRows.{compare_gives, compare_none}
 use Rattle.px_kernels.proofs.BroadcastRows.{two_wide, wide_rows, no_rows}
 use Rattle.px_kernels.proofs.comparison.compare_buffers.Goals as goal

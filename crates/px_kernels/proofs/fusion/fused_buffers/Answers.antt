@@ -1,4 +1,4 @@
-use Rattle.px_kernels.specs.Buffers.{values_of}
+use Rattle.px_column.specs.Buffers.{values_of}
 use Rattle.px_kernels.proofs.FormRows.{fused_answer}
 use Rattle.px_kernels.proofs.fusion.fused_buffers.Goals as goal
 

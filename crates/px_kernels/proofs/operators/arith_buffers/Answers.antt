@@ -2,7 +2,7 @@ use Rattle.px_base.proofs.Answers.{gives_as}
 use Rattle.px_base.specs.declared.error.PlanError.TheVariants.{ShapeMismatch}
 use Rattle.px_types.specs.declared.operator.Operator.TheVariants.{Divide, FloorDivide, Modulus}
 use Rattle.px_column.specs.ColumnOf.{type_of, rows_of}
-use Rattle.px_kernels.specs.Buffers.{values_of}
+use Rattle.px_column.specs.Buffers.{values_of}
 use Rattle.px_kernels.proofs.DividedRows.{quotient_rows, floor_rows, rest_rows}
 use Rattle.px_kernels.proofs.KernelRows.{arith_answer}
 use Rattle.px_kernels.proofs.operators.arith_buffers.Goals as goal

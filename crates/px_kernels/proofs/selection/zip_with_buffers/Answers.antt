@@ -3,7 +3,7 @@ use Rattle.std.proofs.lemmas.Result.{IfOk-weaker}
 use Rattle.px_semantics.specs.Selections.{select_all}
 use Rattle.px_semantics.specs.Rows.{stretch}
 use Rattle.px_column.specs.ColumnOf.{rows_of}
-use Rattle.px_kernels.specs.Buffers.{values_of}
+use Rattle.px_column.specs.Buffers.{values_of}
 use Rattle.px_kernels.proofs.SelectionRows.{choice_gives, choice_none}
 use Rattle.px_kernels.proofs.KernelRows.{typed}
 use Rattle.px_kernels.proofs.BroadcastRows.{joins_three, two_wide}
