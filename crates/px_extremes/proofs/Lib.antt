@@ -1,0 +1,5 @@
+pub mod ExtremeRows
+pub mod IntegerReductions
+pub mod BooleanReductions
+pub mod Positions
+pub mod Named

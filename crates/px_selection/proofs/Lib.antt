@@ -1,0 +1,9 @@
+pub mod Taken
+pub mod Words
+pub mod Typed
+pub mod Appended
+pub mod Masked
+pub mod Indexed
+pub mod Ranged
+pub mod Sliced
+pub mod LawLemmas
