@@ -6,8 +6,6 @@ mod reply;
 mod report;
 mod run;
 mod status;
-#[cfg(test)]
-mod tests;
 
 pub use bytes::answer_bytes;
 pub use px_document::{Document, document_of, error_value};

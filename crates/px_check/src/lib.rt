@@ -3,8 +3,6 @@
 #![tactic(auto)]
 
 mod check;
-#[cfg(test)]
-mod tests;
 
 pub use check::{check_expr, check_list};
 pub use px_coercion::{Checked, CheckedList};

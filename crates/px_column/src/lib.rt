@@ -11,8 +11,3 @@ pub use broadcast::{join_lengths, stretch};
 pub use buffer::Buffer;
 pub use column::{Column, Series};
 pub use frame::{ColumnList, Frame};
-
-#[cfg(test)]
-mod test_columns;
-#[cfg(test)]
-mod tests;

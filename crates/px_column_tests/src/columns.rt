@@ -10,7 +10,7 @@ pub type Rows<'a> = (ValueType, &'a [Option<i128>]);
 /// The rows of an answer, or the name of an error.
 pub type Want<'a> = Result<Rows<'a>, &'static str>;
 
-fn string(number: i128) -> &'static str {
+fn text(number: i128) -> &'static str {
     match number {
         0 => "",
         1 => "a",
@@ -28,29 +28,28 @@ fn bools(alloc: Global, name: &str, values: &[Option<i128>]) -> Result<Column, P
     Column::new_bool(alloc, name, booleans.as_slice())
 }
 
-fn push_string(
+fn push_text(
     alloc: Global,
-    strings: &mut Vec<Option<SmallStr>>,
+    texts: &mut Vec<Option<SmallStr>>,
     value: Option<i128>,
 ) -> Result<(), PlanError> {
     let row = match value {
-        Some(number) => Some(SmallStr::new(alloc, string(number))?),
+        Some(number) => Some(SmallStr::new(alloc, text(number))?),
         None => None,
     };
-    strings.push(row)?;
+    texts.push(row)?;
     Ok(())
 }
 
-fn strings(alloc: Global, name: &str, values: &[Option<i128>]) -> Result<Column, PlanError> {
-    let mut strings = Vec::new(alloc);
+fn texts(alloc: Global, name: &str, values: &[Option<i128>]) -> Result<Column, PlanError> {
+    let mut texts = Vec::new(alloc);
     for value in values {
-        push_string(alloc, &mut strings, *value)?;
+        push_text(alloc, &mut texts, *value)?;
     }
-    Column::new_text(alloc, name, strings.as_slice())
+    Column::new_text(alloc, name, texts.as_slice())
 }
 
-/// A column of these rows.
-pub fn column(alloc: Global, name: &str, rows: Rows) -> Result<Column, PlanError> {
+fn made(alloc: Global, name: &str, rows: Rows) -> Result<Column, PlanError> {
     let (value_type, values) = rows;
     match value_type {
         ValueType::Null => match u32::try_from(values.len()) {
@@ -58,9 +57,15 @@ pub fn column(alloc: Global, name: &str, rows: Rows) -> Result<Column, PlanError
             Err(_) => Err(PlanError::TooLong),
         },
         ValueType::Boolean => bools(alloc, name, values),
-        ValueType::String => strings(alloc, name, values),
+        ValueType::String => texts(alloc, name, values),
         _ => Column::new_int(alloc, name, value_type.dtype(), values),
     }
+}
+
+/// A column of these rows, which had another name before.
+pub fn column(alloc: Global, name: &str, rows: Rows) -> Result<Column, PlanError> {
+    let name = SmallStr::new(alloc, name)?;
+    Ok(made(alloc, "former", rows)?.rename(name))
 }
 
 /// Whether the value is the row.
@@ -69,7 +74,7 @@ fn is_row(value: AnyValue, row: Option<i128>) -> bool {
         AnyValue::Null => row.is_none(),
         AnyValue::Boolean(truth) => row == Some(i128::from(truth)),
         AnyValue::String(bytes) => match row {
-            Some(number) => bytes == string(number),
+            Some(number) => bytes == text(number),
             None => false,
         },
         AnyValue::Int8(number) => row == Some(i128::from(number)),
@@ -109,6 +114,40 @@ fn begins(column: &Column, values: &[Option<i128>]) -> bool {
     true
 }
 
+/// Of 64 rows from a row on, the word of those that are true, or of those that are not null.
+fn word(values: &[Option<i128>], start: usize, valid: bool) -> u64 {
+    let mut word = 0;
+    for i in 0..64_u32 {
+        if let Some(Some(number)) = values.get(start.saturating_add(i as usize)) {
+            if valid || *number != 0 {
+                word |= 1_u64 << i;
+            }
+        }
+    }
+    word
+}
+
+fn are_words(words: &[u64], values: &[Option<i128>], valid: bool) -> bool {
+    for i in 0..words.len() {
+        if words[i] != word(values, i.saturating_mul(64), valid) {
+            return false;
+        }
+    }
+    words.len() == values.len().div_ceil(64)
+}
+
+/// Whether a Boolean column has the bitmaps of the rows, and another column none.
+fn has_bitmaps(column: &Column, rows: Rows) -> bool {
+    let (value_type, values) = rows;
+    match (column.truth_words(), column.valid_words()) {
+        (Some(truth), Some(valid)) => {
+            are_words(truth, values, false) && are_words(valid, values, true)
+        }
+        (None, None) => value_type != ValueType::Boolean,
+        _ => false,
+    }
+}
+
 /// Whether the column is named `a` and has the type and the rows.
 fn reads(column: &Column, rows: Rows) -> bool {
     let (value_type, values) = rows;
@@ -118,13 +157,17 @@ fn reads(column: &Column, rows: Rows) -> bool {
         && column.len() as usize == values.len()
         && column.null_count() == nulls(values)
         && begins(column, values)
+        && has_bitmaps(column, rows)
 }
 
 /// The name of an error.
-fn fault(error: &PlanError) -> &'static str {
+pub fn fault(error: &PlanError) -> &'static str {
     match error {
         PlanError::ShapeMismatch => "ShapeMismatch",
+        PlanError::InvalidOperation => "InvalidOperation",
+        PlanError::InvalidCast => "InvalidCast",
         PlanError::OutOfBounds => "OutOfBounds",
+        PlanError::Duplicate(_) => "Duplicate",
         _ => "another",
     }
 }

@@ -12,6 +12,12 @@ mod extreme_calls;
 #[cfg(test)]
 mod extremes;
 #[cfg(test)]
+mod frames;
+#[cfg(test)]
+mod kernel_calls;
+#[cfg(test)]
+mod kernels;
+#[cfg(test)]
 mod operands;
 #[cfg(test)]
 mod runs;

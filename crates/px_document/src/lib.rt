@@ -3,8 +3,6 @@
 
 mod document;
 mod report;
-#[cfg(test)]
-mod tests;
 
 pub use document::{Document, document_of, document_of_bytes};
 pub use report::{error_value, line, report_of};

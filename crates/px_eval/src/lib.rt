@@ -14,6 +14,3 @@ mod table;
 
 pub use evaluation::evaluate;
 pub use selection::{Collected, run_select};
-
-#[cfg(test)]
-mod tests;

@@ -8,8 +8,6 @@ mod expr;
 mod kernel;
 mod literal;
 mod plan;
-#[cfg(test)]
-mod tests;
 
 pub use build::binary_expr;
 pub use context::Context;

@@ -9,8 +9,6 @@ mod literal;
 mod names;
 mod operator;
 mod read;
-#[cfg(test)]
-mod tests;
 mod write;
 
 pub use laws::checked_trees_have_forms;

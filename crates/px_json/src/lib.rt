@@ -5,8 +5,6 @@ mod access;
 mod build;
 mod digits;
 mod read;
-#[cfg(test)]
-mod tests;
 mod value_type;
 mod write;
 

@@ -20,10 +20,3 @@ pub use fusion::{fused, fused_buffers};
 pub use logic::{is_not_null, is_null, kleene_and, kleene_or, kleene_xor, negate_bitwise};
 pub use operators::{arith, arith_buffers};
 pub use selection::{zip_with, zip_with_buffers};
-
-#[cfg(test)]
-mod test_calls;
-#[cfg(test)]
-mod test_columns;
-#[cfg(test)]
-mod tests;

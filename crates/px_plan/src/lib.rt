@@ -3,8 +3,6 @@
 
 mod lowering;
 mod optimizing;
-#[cfg(test)]
-mod tests;
 
 pub use lowering::lower;
 pub use optimizing::{Optimized, optimize};

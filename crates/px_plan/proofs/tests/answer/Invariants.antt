@@ -1,5 +1,0 @@
-use Rattle.px_plan.proofs.tests.answer.Given as goal
-
--- the counter's own name and parts
-abbrev pub ghosts-optimized_text : goal.ghosts-optimized_text
-ghosts-optimized_text a = record { name = a.blank.name; parts = a.blank.parts }

@@ -1,5 +1,0 @@
-use Rattle.px_plan.proofs.tests.twice_by_boolean_rule.Given as goal
-
--- the counter's own name and parts
-abbrev pub ghosts-twice : goal.ghosts-twice
-ghosts-twice g a = record { name = a.blank.name; parts = a.blank.parts }
