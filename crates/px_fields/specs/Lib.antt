@@ -1,0 +1,4 @@
+pub mod FieldTypes
+pub mod FunctionTypes
+pub mod Reshape
+pub mod TypeChanges
