@@ -3,7 +3,7 @@
 use px_base::{List, PlanError, SmallStr};
 use px_functions::{
     BitwiseFunction, BoolList, BooleanFunction, DimensionList, FillNullStrategy, FunctionExpr,
-    FusedOperator, NullBehavior, ReshapeDimension, bitwise_text,
+    FusedOperator, NullBehavior, ReshapeDimension,
 };
 use px_types::DataType;
 use std::alloc::Global;
@@ -108,7 +108,12 @@ fn functions_are_equal_where_all_fields_are(rt: HostRuntime) -> Result<(), Fail>
 
 #[test]
 fn small_types_answer(rt: HostRuntime) -> Result<(), Fail> {
-    assert_eq!(rt; bitwise_text(BitwiseFunction::And), "and");
+    let alloc = rt.alloc();
+    assert_eq!(rt; BitwiseFunction::And.to_string(alloc)?.as_str(), "and");
+    assert_eq!(rt;
+        FusedOperator::SubMultiply.to_string(alloc)?.as_str(),
+        "fsm"
+    );
     assert_eq!(rt; ReshapeDimension::new(-1).get_or_infer(5), 5);
     assert_eq!(rt; ReshapeDimension::new(0).get_or_infer(5), 0);
     assert!(rt; FillNullStrategy::Zero.is_elementwise());

@@ -2,10 +2,7 @@
 use Rattle.std.specs.Prelude.{ℕ, Bool, true, false, List, ◌++◌, codes, if◌then◌else◌}
 use Rattle.px_functions.specs.declared.function.BooleanFunction.{BooleanFunction}
 use Rattle.px_functions.specs.declared.function.BooleanFunction.TheVariants as boolean
-use Rattle.px_types.specs.declared.function.BitwiseFunction.{BitwiseFunction}
-use Rattle.px_types.specs.declared.function.BitwiseFunction.TheVariants as bitwise
-use Rattle.px_types.specs.declared.function.FusedOperator.{FusedOperator}
-use Rattle.px_types.specs.declared.function.FusedOperator.TheVariants as fused
+use Rattle.px_types.specs.FunctionTexts.{bitwise_text, fused_text}
 use Rattle.px_functions.specs.declared.function.FunctionExpr.{FunctionExpr}
 use Rattle.px_functions.specs.declared.function.FunctionExpr.TheVariants.{Boolean, Bitwise, Negate, Abs, Sign, NullCount, DropNulls, Reverse, FillNull, Coalesce, Clip, Fused, MaxHorizontal, MinHorizontal, SumHorizontal, MeanHorizontal, Append, ArgMin, ArgMax, Product, Hash, ArgWhere, IndexOf, SearchSorted, Pow, ShiftAndFill, Shift, DropNans, Mode, Skew, Kurtosis, Reshape, RepeatBy, ArgUnique, Rank, Repeat, AsStruct, TopK, TopKBy, CumCount, CumSum, CumProd, CumMin, CumMax, ValueCounts, UniqueCounts, ApproxNUnique, ShrinkType, Diff, PctChange, Interpolate, InterpolateBy, Unique, Round, RoundSF, Floor, Ceil, UpperBound, LowerBound, ConcatExpr, PeakMin, PeakMax, RLE, RLEID, ToPhysical, SetSortedFlag, BackwardFill, ForwardFill, Replace, ReplaceStrict, GatherEvery, Reinterpret, ExtendConstant, FillNullWithStrategy}
 
@@ -27,22 +24,6 @@ boolean_text boolean.IsIn = codes "is_in"
 boolean_text boolean.AllHorizontal = codes "all_horizontal"
 boolean_text boolean.AnyHorizontal = codes "any_horizontal"
 boolean_text boolean.Not = codes "not"
-
-unfoldable pub bitwise_text : BitwiseFunction → List ℕ
-bitwise_text bitwise.CountOnes = codes "count_ones"
-bitwise_text bitwise.CountZeros = codes "count_zeros"
-bitwise_text bitwise.LeadingOnes = codes "leading_ones"
-bitwise_text bitwise.LeadingZeros = codes "leading_zeros"
-bitwise_text bitwise.TrailingOnes = codes "trailing_ones"
-bitwise_text bitwise.TrailingZeros = codes "trailing_zeros"
-bitwise_text bitwise.And = codes "and"
-bitwise_text bitwise.Or = codes "or"
-bitwise_text bitwise.Xor = codes "xor"
-
-unfoldable pub fused_text : FusedOperator → List ℕ
-fused_text fused.MultiplyAdd = codes "fma"
-fused_text fused.SubMultiply = codes "fsm"
-fused_text fused.MultiplySub = codes "fms"
 
 -- by the bounds that there are
 abbrev pub clip_text : Bool → Bool → List ℕ

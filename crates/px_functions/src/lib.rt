@@ -12,4 +12,3 @@ pub use small::{
     BoolList, DimensionList, FillNullLimit, FillNullStrategy, InterpolationMethod, IsSorted,
     NullBehavior, PowFunction, RankMethod, RankOptions, ReshapeDimension, SearchSortedSide,
 };
-pub use text::{bitwise_text, fused_text};

@@ -1,9 +1,8 @@
 //! The texts of functions.
 ghost use Rattle.std.specs.Prelude.{◌≡◌};
-ghost use Rattle.px_functions.specs.Texts.{boolean_text, bitwise_text, fused_text, clip_text, own_text, prefix};
+ghost use Rattle.px_functions.specs.Texts.{boolean_text, clip_text, own_text, prefix};
 
 use crate::function::{BooleanFunction, FunctionExpr};
-use px_types::{BitwiseFunction, FusedOperator};
 use std::fmt;
 
 impl BooleanFunction {
@@ -33,36 +32,6 @@ impl BooleanFunction {
     }
 }
 
-/// The text of a function over bits, without `bitwise_`.
-#[tactic(auto, unfolding(crate::specs::Texts::bitwise_text))]
-pub fn bitwise_text(function: BitwiseFunction) -> &'static str
-    ensures { result.now ≡ bitwise_text function }
-{
-    match function {
-        BitwiseFunction::CountOnes => "count_ones",
-        BitwiseFunction::CountZeros => "count_zeros",
-        BitwiseFunction::LeadingOnes => "leading_ones",
-        BitwiseFunction::LeadingZeros => "leading_zeros",
-        BitwiseFunction::TrailingOnes => "trailing_ones",
-        BitwiseFunction::TrailingZeros => "trailing_zeros",
-        BitwiseFunction::And => "and",
-        BitwiseFunction::Or => "or",
-        BitwiseFunction::Xor => "xor",
-    }
-}
-
-/// The text of a product and a sum or a difference in one step.
-#[tactic(auto, unfolding(crate::specs::Texts::fused_text))]
-pub fn fused_text(operator: FusedOperator) -> &'static str
-    ensures { result.now ≡ fused_text operator }
-{
-    match operator {
-        FusedOperator::MultiplyAdd => "fma",
-        FusedOperator::SubMultiply => "fsm",
-        FusedOperator::MultiplySub => "fms",
-    }
-}
-
 fn clip_text(has_min: bool, has_max: bool) -> &'static str
     ensures { result.now ≡ clip_text has_min has_max }
 {
@@ -80,7 +49,7 @@ impl FunctionExpr {
     {
         match self {
             FunctionExpr::Boolean(function) => function.text(),
-            FunctionExpr::Bitwise(function) => bitwise_text(*function),
+            FunctionExpr::Bitwise(function) => function.text(),
             FunctionExpr::Negate => "negate",
             FunctionExpr::Abs => "abs",
             FunctionExpr::Sign => "sign",
@@ -90,7 +59,7 @@ impl FunctionExpr {
             FunctionExpr::FillNull => "fill_null",
             FunctionExpr::Coalesce => "coalesce",
             FunctionExpr::Clip { has_min, has_max } => clip_text(*has_min, *has_max),
-            FunctionExpr::Fused(operator) => fused_text(*operator),
+            FunctionExpr::Fused(operator) => operator.text(),
             FunctionExpr::MaxHorizontal => "max_horizontal",
             FunctionExpr::MinHorizontal => "min_horizontal",
             FunctionExpr::SumHorizontal { .. } => "sum_horizontal",

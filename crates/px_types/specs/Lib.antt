@@ -1,5 +1,6 @@
 pub mod Operators
 pub mod Integers
+pub mod FunctionTexts
 pub mod HashInputs
 pub mod AnyValues
 pub mod Classes

@@ -1,9 +1,11 @@
 //! The functions of expressions.
 ghost use Rattle.std.specs.Prelude.{◌≡◌, IsTrue, ◌↔◌};
 ghost use Rattle.px_base.specs.Answer.{GivesOrMemory};
+ghost use Rattle.px_types.specs.FunctionTexts.{bitwise_text, fused_text};
 
 use px_base::PlanError;
 use std::alloc::Global;
+use std::fmt;
 
 /// A function that answers Booleans, or that takes them apart.
 #[derive(Clone, Copy, Debug, PartialEq, Eq, Hash)]
@@ -102,5 +104,61 @@ impl From<BooleanFunction> for FunctionExpr {
 
     fn from(function: BooleanFunction) -> FunctionExpr {
         FunctionExpr::Boolean(function)
+    }
+}
+
+impl BitwiseFunction {
+    /// The text that is printed.
+    #[tactic(auto, unfolding(crate::specs::FunctionTexts::bitwise_text))]
+    pub fn text(self) -> &'static str
+        ensures { result.now ≡ bitwise_text self }
+    {
+        match self {
+            BitwiseFunction::CountOnes => "count_ones",
+            BitwiseFunction::CountZeros => "count_zeros",
+            BitwiseFunction::LeadingOnes => "leading_ones",
+            BitwiseFunction::LeadingZeros => "leading_zeros",
+            BitwiseFunction::TrailingOnes => "trailing_ones",
+            BitwiseFunction::TrailingZeros => "trailing_zeros",
+            BitwiseFunction::And => "and",
+            BitwiseFunction::Or => "or",
+            BitwiseFunction::Xor => "xor",
+        }
+    }
+}
+
+impl FusedOperator {
+    /// The text that is printed, which is Polars'.
+    #[tactic(auto, unfolding(crate::specs::FunctionTexts::fused_text))]
+    pub fn text(self) -> &'static str
+        ensures { result.now ≡ fused_text self }
+    {
+        match self {
+            FusedOperator::MultiplyAdd => "fma",
+            FusedOperator::SubMultiply => "fsm",
+            FusedOperator::MultiplySub => "fms",
+        }
+    }
+}
+
+impl fmt::Display for BitwiseFunction {
+    ghost use Rattle.std.specs.Prelude.{Some};
+    ghost use Rattle.px_types.specs.FunctionTexts.{bitwise_text};
+
+    ghost output = { λ function. Some (bitwise_text function) };
+
+    fn fmt<W: fmt::Write>(&self, f: &mut fmt::Formatter<W>) -> fmt::Result {
+        f.write_str(self.text())
+    }
+}
+
+impl fmt::Display for FusedOperator {
+    ghost use Rattle.std.specs.Prelude.{Some};
+    ghost use Rattle.px_types.specs.FunctionTexts.{fused_text};
+
+    ghost output = { λ operator. Some (fused_text operator) };
+
+    fn fmt<W: fmt::Write>(&self, f: &mut fmt::Formatter<W>) -> fmt::Result {
+        f.write_str(self.text())
     }
 }
