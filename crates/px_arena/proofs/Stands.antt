@@ -5,7 +5,7 @@ use Rattle.px_types.specs.declared.dtype.DataType.{DataType}
 use Rattle.px_types.specs.declared.type_parts.CastOptions.{CastOptions}
 use Rattle.px_types.specs.declared.operator.Operator.{Operator}
 use Rattle.px_types.specs.declared.options.FunctionOptions.{FunctionOptions}
-use Rattle.px_types.specs.declared.function.FunctionExpr.{FunctionExpr}
+use Rattle.px_functions.specs.declared.function.FunctionExpr.{FunctionExpr}
 use Rattle.px_base.specs.declared.list.List.{List as Entries}
 use Rattle.px_expr.specs.declared.literal.LiteralValue.{LiteralValue}
 use Rattle.px_expr.specs.declared.expr.Expr.{Expr, fold-roll-Expr}

@@ -1,9 +1,9 @@
 -- How weights grow with the inputs'.
 use Rattle.std.proofs.Common.{◌≡◌, ℕ, ◌+◌, ◌≤◌, ◌<◌, arith}
 use Rattle.std.proofs.lemmas.List.Sums.{sum_by-cons}
-use Rattle.px_types.specs.declared.function.BooleanFunction.TheVariants.{Not}
-use Rattle.px_types.specs.declared.function.FunctionExpr.{FunctionExpr}
-use Rattle.px_types.specs.declared.function.FunctionExpr.TheVariants as function
+use Rattle.px_functions.specs.declared.evaluated.EvaluatedBoolean.TheVariants.{Not}
+use Rattle.px_functions.specs.declared.evaluated.EvaluatedFunction.{EvaluatedFunction}
+use Rattle.px_functions.specs.declared.evaluated.EvaluatedFunction.TheVariants as function
 use Rattle.px_expr.specs.Tree.{Node as Root, Binary, Function, Tree, Trees, more, fold_trees}
 use Rattle.px_meaning.specs.Weight.{Load, Doubles, Adds, load_of, function_load, loaded, node_weight, weight, weights}
 
@@ -15,7 +15,7 @@ pub weights-more : (u : Tree) (us : Trees) → weights (more u us) ≡ weight u 
 weights-more u us = sum_by-cons (λ (y : ℕ). y) (weight u) (fold_trees node_weight us)
 
 -- a node weighs more than its inputs together
-function_above : (f : FunctionExpr) (n : ℕ) → n < loaded (function_load f) n
+function_above : (f : EvaluatedFunction) (n : ℕ) → n < loaded (function_load f) n
 function_above (function.Boolean Not) n = omega arith
 function_above _ n = omega arith
 

@@ -1,7 +1,7 @@
 -- Which tree a place of an arena denotes, and which places it reaches. An arena is the list of what its places
 -- hold. `root_of` and `inputs_of` are all that the theory of arenas knows of a node.
 use Rattle.std.specs.Prelude.{◌≡◌, ℕ, List, [], ◌∷◌, map, Some, slice_get}
-use Rattle.px_expr.specs.Tree.{Node as Root, Aggregate, Tree, tree, Trees, none, more}
+use Rattle.px_expr.specs.Tree.{Node as Root, function_node, Aggregate, Tree, tree, Trees, none, more}
 use Rattle.px_expr.specs.Tree as root
 use Rattle.px_arena.specs.declared.node.AExpr.{AExpr}
 use Rattle.px_arena.specs.declared.node.AExpr.TheVariants as ir
@@ -38,7 +38,7 @@ root_of (ir.Slice input offset length) = root.Slice
 root_of (ir.Filter input by) = root.Filter
 root_of (ir.Ternary predicate truthy falsy) = root.Ternary
 root_of (ir.Agg a) = root.Agg (aggregate_of a)
-root_of (ir.Function input function options) = root.Function function
+root_of (ir.Function input function options) = function_node function
 root_of (ir.AnonymousFunction input kernel options) = root.AnonymousFunction kernel
 root_of ir.Len = root.Len
 

@@ -4,9 +4,9 @@ ghost use Rattle.px_base.specs.Answer.{GivesOrMemory};
 ghost use Rattle.px_arena.specs.Denotes.{inputs_of, agg_inputs};
 
 use px_expr::LiteralValue;
+use px_functions::FunctionExpr;
 use px_types::{
-    CastOptions, DataType, FunctionExpr, FunctionOptions, List, Operator, PlanError, SmallStr,
-    TryClone,
+    CastOptions, DataType, FunctionOptions, List, Operator, PlanError, SmallStr, TryClone,
 };
 use std::alloc::Global;
 

@@ -6,7 +6,7 @@ ghost use Rattle.std.specs.Prelude.{◌≡◌, [], ◌∷◌, ◌++◌, map, Ok,
 ghost use Rattle.px_base.specs.Answer.{AnswersOrMemory, GivesSeen};
 ghost use Rattle.px_types.specs.Schemas.{names_of};
 ghost use Rattle.px_expr.specs.declared.context.Context.TheVariants.{Select};
-ghost use Rattle.px_expr.specs.Tree.{Alias, Binary, Cast, Ternary, Function, tree_of};
+ghost use Rattle.px_expr.specs.Tree.{Alias, Binary, Cast, Ternary, function_node, tree_of};
 ghost use Rattle.px_expr.specs.Options.{options_of, joined};
 ghost use Rattle.px_meaning.specs.Names.{name};
 ghost use Rattle.px_meaning.specs.Check.{Typed, then_, found, all_results, find, as_asked, with_names};
@@ -18,9 +18,10 @@ ghost use Rattle.px_check.specs.Inputs.{at_node, found_all, refused_over};
 
 use px_coercion::{Checked, CheckedList, Found};
 use px_expr::{AggExpr, Context, Expr, KernelList, Kernels, Plan, PlanContext};
+use px_functions::FunctionExpr;
 use px_types::{
-    CastOptions, DataType, Field, FieldList, FunctionExpr, FunctionOptions, List, Operator,
-    PlanError, Schema, SmallStr, ValueType,
+    CastOptions, DataType, Field, FieldList, FunctionOptions, List, Operator, PlanError, Schema,
+    SmallStr, ValueType,
 };
 use std::alloc::Global;
 
@@ -250,7 +251,7 @@ fn check_function<K: Kernels>(
 ) -> Result<Found, PlanError>
     ensures answer { AnswersOrMemory seen result
         (then_ (found_all (catalog_of schema.now (K.definitions kernels.now)) (map tree_of input.now))
-        (at_node (catalog_of schema.now (K.definitions kernels.now)) (Function function.now))) }
+        (at_node (catalog_of schema.now (K.definitions kernels.now)) (function_node function.now))) }
     ensures kept { IfOk result (λ f. options_in f ≡ options ∷ joined (map options_of input.now)) }
 {
     let inputs = check_inputs(alloc, schema, kernels, input)?;

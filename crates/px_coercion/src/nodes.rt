@@ -2,11 +2,12 @@
 //!
 //! Where an expression is dropped, `drop` is called by name: the proof of that is short, and at the end of
 //! a scope it would go through each variant of the expression.
-ghost use Rattle.std.specs.Prelude.{◌≡◌, [], ◌∷◌, ◌++◌, map, Some, IfOk, OnErr, Err, option_map};
+ghost use Rattle.std.specs.Prelude.{◌≡◌, [], ◌∷◌, ◌++◌, map, Some, IfOk, OnErr, Err, option_map, option_and_then};
+ghost use Rattle.px_functions.specs.Evaluated.{evaluated};
 ghost use Rattle.px_types.specs.declared.value_type.ValueType.TheVariants as bool;
 ghost use Rattle.px_base.specs.Answer.{AnswersOrMemory, GivesOrMemory, GivesSeen};
 ghost use Rattle.px_types.specs.ValueTypes.{value_type_of, default_type};
-ghost use Rattle.px_expr.specs.Tree.{Alias, Column, Literal, Binary, Cast, Ternary, Function, Tree, over, tree_of};
+ghost use Rattle.px_expr.specs.Tree.{Alias, Column, Literal, Binary, Cast, Ternary, Tree, function_node, over, tree_of};
 ghost use Rattle.px_expr.specs.Options.{options_of, joined};
 ghost use Rattle.px_meaning.specs.Signatures.{unary, uniting, any_type, cast_type, group_type, group_of, literal_signature, ternary_signature, function_signature, united};
 ghost use Rattle.px_meaning.specs.Check.{then_, or_fault, operand_of, coerced, column_signature, deferred, with_default_type_or, made};
@@ -21,9 +22,10 @@ use crate::literals::{default_literal, literal_of, literal_type};
 use crate::types::{cast_type, column_type, function_types, is_mask, is_type, operator_type};
 use crate::unite::united;
 use px_expr::{Expr, ExprList, LiteralValue, binary_expr};
+use px_functions::{EvaluatedFunction, FunctionExpr};
 use px_types::{
-    Boxed, CastOptions, DataType, FunctionExpr, FunctionOptions, List, Operator, PlanError, Schema,
-    SmallStr, ValueType, boxed,
+    Boxed, CastOptions, DataType, FunctionOptions, List, Operator, PlanError, Schema, SmallStr,
+    ValueType, boxed,
 };
 use std::alloc::Global;
 
@@ -436,10 +438,10 @@ fn operands_of(alloc: Global, inputs: &[Found]) -> Result<Vec<Operand>, PlanErro
 // The type that a function wants of each input, and its own.
 fn types_over(
     alloc: Global,
-    function: &FunctionExpr,
+    function: EvaluatedFunction,
     inputs: &[Found],
 ) -> Result<Option<(ValueType, ValueType)>, PlanError>
-    ensures answer { IfOk result (λ p. function_signature function.now (map operand_of (map seen inputs.now))
+    ensures answer { IfOk result (λ p. function_signature function (map operand_of (map seen inputs.now))
         ≡ option_map (uniform_signature (map operand_of (map seen inputs.now))) p) }
     ensures err { OnErr result (result ≡ Err PlanError.OutOfMemory) }
 {
@@ -471,14 +473,15 @@ fn function_of(
     options: FunctionOptions,
 ) -> Result<Expr, PlanError>
     ensures answer { GivesSeen tree_of result
-        (over (Function function.now) (all_coerced value_type (map seen inputs.items))) }
+        (over (function_node function.now) (all_coerced value_type (map seen inputs.items))) }
     ensures kept { IfOk result (λ x. options_of x ≡ options ∷ joined (map options_in inputs.items)) }
 {
     let input = coerce_all(alloc, value_type, inputs)?;
     function_over(alloc, input, function, options)
 }
 
-/// A function over inputs, each cast to the type that it wants, with its options.
+/// A function over inputs, each cast to the type that it wants, with its options. `InvalidOperation` where it is
+/// not evaluated, or does not take these inputs.
 pub fn function(
     alloc: Global,
     inputs: Vec<Found>,
@@ -486,11 +489,14 @@ pub fn function(
     options: FunctionOptions,
 ) -> Result<Found, PlanError>
     ensures answer { AnswersOrMemory seen result
-        (by_signature (function_signature function.now (map operand_of (map seen inputs.items)))
-        (Function function.now) (map seen inputs.items)) }
+        (by_signature (option_and_then (λ f. function_signature f (map operand_of (map seen inputs.items))) (evaluated function.now))
+        (function_node function.now) (map seen inputs.items)) }
     ensures kept { IfOk result (λ f. options_in f ≡ options ∷ joined (map options_in inputs.items)) }
 {
-    let Some((value_type, own)) = types_over(alloc, function, &inputs)? else {
+    let Some(evaluated) = function.evaluated() else {
+        return Err(PlanError::InvalidOperation);
+    };
+    let Some((value_type, own)) = types_over(alloc, evaluated, &inputs)? else {
         return Err(PlanError::InvalidOperation);
     };
     Ok(Found::Typed(

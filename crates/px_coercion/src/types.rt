@@ -8,7 +8,8 @@ ghost use Rattle.px_coercion.specs.Found.{read, sole_type, uniform_signature};
 
 use crate::found::Operand;
 use crate::unite::united;
-use px_types::{BooleanFunction, DataType, FunctionExpr, Operator, ValueType};
+use px_functions::{EvaluatedBoolean, EvaluatedFunction};
+use px_types::{DataType, Operator, ValueType};
 
 fn same_type(a: ValueType, b: ValueType) -> bool
     ensures { IsTrue result ↔ (a ≡ b) }
@@ -153,26 +154,26 @@ fn sole_type(operands: &[Operand]) -> Option<ValueType>
 /// The type that a function wants of each input, and its own.
 #[tactic(auto, using(crate::proofs::Steps::unary_even))]
 pub fn function_types(
-    function: &FunctionExpr,
+    function: EvaluatedFunction,
     operands: &[Operand],
 ) -> Option<(ValueType, ValueType)>
-    ensures { function_signature function.now (map read operands.now)
+    ensures { function_signature function (map read operands.now)
         ≡ option_map (uniform_signature (map read operands.now)) result }
 {
     match function {
-        FunctionExpr::Boolean(BooleanFunction::IsNull | BooleanFunction::IsNotNull) => {
+        EvaluatedFunction::Boolean(EvaluatedBoolean::IsNull | EvaluatedBoolean::IsNotNull) => {
             let value_type = sole_type(operands)?;
             Some((value_type, ValueType::Boolean))
         }
-        FunctionExpr::Boolean(BooleanFunction::Not) => {
+        EvaluatedFunction::Boolean(EvaluatedBoolean::Not) => {
             let value_type = sole_type(operands)?;
             Some((value_type, number_type(value_type)?))
         }
-        FunctionExpr::Negate => {
+        EvaluatedFunction::Negate => {
             let value_type = sole_type(operands)?;
             Some((value_type, signed_type(value_type)?))
         }
-        FunctionExpr::Fused(_) => {
+        EvaluatedFunction::Fused(_) => {
             if operands.len() != 3 {
                 return None;
             }

@@ -9,11 +9,12 @@ ghost use Rattle.px_kernels.specs.OperandTypes.{IsSigned};
 
 use crate::columns::{Rows, Want, agrees, column, wrong_call};
 use px_column::Column;
+use px_functions::EvaluatedBoolean;
 use px_kernels::{
     arith, cast, compare, fused, is_not_null, is_null, kleene_and, kleene_or, kleene_xor, negate,
     negate_bitwise, zip_with,
 };
-use px_types::{BooleanFunction, CastOptions, FusedOperator, Operator, PlanError, ValueType};
+use px_types::{CastOptions, FusedOperator, Operator, PlanError, ValueType};
 use std::alloc::Global;
 
 fn is_signed(value_type: ValueType) -> bool
@@ -93,11 +94,11 @@ fn inverse(alloc: Global, a: &Column) -> Result<Column, PlanError> {
     negate_bitwise(alloc, a)
 }
 
-fn predicate(alloc: Global, function: BooleanFunction, a: &Column) -> Result<Column, PlanError> {
+fn predicate(alloc: Global, function: EvaluatedBoolean, a: &Column) -> Result<Column, PlanError> {
     match function {
-        BooleanFunction::IsNull => is_null(alloc, a),
-        BooleanFunction::IsNotNull => is_not_null(alloc, a),
-        BooleanFunction::Not => inverse(alloc, a),
+        EvaluatedBoolean::IsNull => is_null(alloc, a),
+        EvaluatedBoolean::IsNotNull => is_not_null(alloc, a),
+        EvaluatedBoolean::Not => inverse(alloc, a),
     }
 }
 
@@ -200,7 +201,7 @@ fn form(
 #[derive(Clone, Copy)]
 pub enum Call {
     Negate,
-    Test(BooleanFunction),
+    Test(EvaluatedBoolean),
     Cast(ValueType, CastOptions),
     /// Logic, arithmetic or a comparison.
     Pair(Operator),

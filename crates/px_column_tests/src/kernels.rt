@@ -3,7 +3,7 @@
 
 use crate::columns::{Rows, Want};
 use crate::kernel_calls::{Call, gives};
-use px_types::BooleanFunction::{self, IsNotNull, IsNull, Not};
+use px_functions::EvaluatedBoolean::{self, IsNotNull, IsNull, Not};
 use px_types::CastOptions::{self, NonStrict, Overflowing, Strict};
 use px_types::FusedOperator::{self, MultiplyAdd, MultiplySub, SubMultiply};
 use px_types::Operator::{
@@ -119,7 +119,7 @@ fn logic_goes_row_by_row(rt: HostRuntime) {
 }
 
 /// Strings differ from nulls, and nulls are no values.
-const PREDICATES: [(BooleanFunction, Rows<'static>, Want<'static>); 4] = [
+const PREDICATES: [(EvaluatedBoolean, Rows<'static>, Want<'static>); 4] = [
     (Not, BYTES, Ok((Int8, &[Some(-101), None, Some(127)]))),
     (Not, BOOLEANS, Ok((Boolean, &[Some(0), None, Some(1)]))),
     (IsNull, STRINGS, Ok((Boolean, &[Some(0), Some(1), Some(0)]))),

@@ -17,11 +17,10 @@ use Rattle.px_types.specs.ValueTypes.{value_type_of}
 use Rattle.px_semantics.proofs.CastLemmas.{same_gives}
 use Rattle.px_types.specs.declared.dtype.DataType.{DataType}
 use Rattle.px_types.specs.declared.type_parts.CastOptions.{CastOptions}
-use Rattle.px_base.specs.declared.list.List.{List as Entries}
-use Rattle.px_types.specs.declared.options.FunctionOptions.{FunctionOptions}
-use Rattle.px_types.specs.declared.function.BooleanFunction.TheVariants.{IsNull, IsNotNull, Not}
-use Rattle.px_types.specs.declared.function.FunctionExpr.{FunctionExpr}
-use Rattle.px_types.specs.declared.function.FunctionExpr.TheVariants as function
+use Rattle.px_functions.specs.declared.evaluated.EvaluatedBoolean.TheVariants.{IsNull, IsNotNull, Not}
+use Rattle.px_functions.specs.declared.evaluated.EvaluatedFunction.{EvaluatedFunction}
+use Rattle.px_functions.specs.declared.evaluated.EvaluatedFunction.TheVariants as function
+use Rattle.px_functions.specs.declared.function.FunctionExpr.{FunctionExpr}
 use Rattle.px_types.specs.declared.operator.Operator.{Operator}
 use Rattle.px_types.specs.declared.operator.Operator.TheVariants as op
 use Rattle.px_types.specs.declared.value_type.ValueType.{ValueType}
@@ -43,9 +42,8 @@ use Rattle.px_meaning.proofs.Types.{Takes, is_null-types, is_not_null-types, not
 use Rattle.px_meaning.proofs.Typing.{is_type-is}
 use Rattle.px_arena.specs.declared.node.AExpr.{AExpr}
 use Rattle.px_arena.specs.declared.node.AExpr.TheVariants as ir
-use Rattle.px_arena.specs.declared.node.ExprIR.{ExprIR}
 use Rattle.px_arena.specs.declared.node.Node.{Node}
-use Rattle.px_arena.specs.Denotes.{root_of, inputs_of, expr_places}
+use Rattle.px_arena.specs.Denotes.{root_of, inputs_of}
 use Rattle.px_column.specs.declared.buffer.Buffer.{Buffer}
 use Rattle.px_column.specs.Buffers as buffers
 use Rattle.px_eval.specs.declared.table.Rows.{Rows}
@@ -297,6 +295,12 @@ module _ (kernels : List Kernel) (frame : List Contents) (fits : Fits frame (sch
   not_core (ir.Ternary a b c) o ready = absurd o
   not_core (ir.Function a b c) o ready = absurd o
 
+  -- a function that is not evaluated has no signature
+  pub not_evaluated : (x : AExpr) (f : FunctionExpr) → root_of x ≡ root.OtherFunction f → IsReady kernels frame table x → ⊥
+  unfolding signature
+  not_evaluated x f is ready =
+      let e = subst (λ (n : Root). Takes (frame_catalog kernels frame) n ready.types ready.value_type) is ready.takes in cc
+
   pub outside : (x y : AExpr) → x ≡ y → IsOutside y → IsReady kernels frame table x → ⊥
   outside x y is o ready = not_core y o (subst (λ (z : AExpr). IsReady kernels frame table z) is ready)
 
@@ -305,21 +309,21 @@ module _ (kernels : List Kernel) (frame : List Contents) (fits : Fits frame (sch
   single (n ∷ []) a e = (n, refl, cc)
   single (n ∷ (m ∷ ns)) a e = cc
 
-  types_of_one : (f : FunctionExpr) → IsOfOne f → (ks : List ValueType) (k : ValueType) → Takes (frame_catalog kernels frame) (root.Function f) ks k → (j : ValueType) × (ks ≡ j ∷ [])
+  types_of_one : (f : EvaluatedFunction) → IsOfOne f → (ks : List ValueType) (k : ValueType) → Takes (frame_catalog kernels frame) (root.Function f) ks k → (j : ValueType) × (ks ≡ j ∷ [])
   types_of_one (function.Boolean IsNull) o ks k t = let (j, f, g) = is_null-types (frame_catalog kernels frame) ks k t in (j, f)
   types_of_one (function.Boolean IsNotNull) o ks k t = let (j, f, g) = is_not_null-types (frame_catalog kernels frame) ks k t in (j, f)
   types_of_one (function.Boolean Not) o ks k t = let (f, g) = not-types (frame_catalog kernels frame) ks k t in (k, f)
   types_of_one function.Negate o ks k t = let (f, g) = negate-types (frame_catalog kernels frame) ks k t in (k, f)
   types_of_one (function.Fused f) o ks k t = absurd o
 
-  one_takes : (f : FunctionExpr) (ks : List ValueType) (j k : ValueType) → Takes (frame_catalog kernels frame) (root.Function f) ks k → ks ≡ j ∷ [] → TakesOne f j
+  one_takes : (f : EvaluatedFunction) (ks : List ValueType) (j k : ValueType) → Takes (frame_catalog kernels frame) (root.Function f) ks k → ks ≡ j ∷ [] → TakesOne f j
   unfolding signature
   one_takes f ks j k t e =
       let s : Signature = record { inputs = ks; result = k } in
       (s, subst (λ (z : List ValueType). function_signature f (map OfType z) ≡ Some s) e (from_option InvalidOperation (function_signature f (map OfType ks)) s t))
 
   -- a function of one input, and that input
-  pub record OneInput (x : AExpr) (f : FunctionExpr) : Type 0 where
+  pub record OneInput (x : AExpr) (f : EvaluatedFunction) : Type 0 where
     pub place : ℕ
     pub rows : TypedRows
     pub are : inputs_of x ≡ place ∷ []
@@ -327,33 +331,34 @@ module _ (kernels : List Kernel) (frame : List Contents) (fits : Fits frame (sch
     pub takes : TakesOne f rows.value_type
     pub case : Case kernels frame table x (function_rows f (rows ∷ [])) ShapeMismatch
 
-  one_at : (input : Entries ExprIR) (f : FunctionExpr) (own : FunctionOptions) → IsOfOne f → IsReady kernels frame table (ir.Function input f own) → OneInput (ir.Function input f own) f
-  one_at input f own one ready =
-      let (j, e) = types_of_one f one ready.types ready.value_type ready.takes in
+  -- a ready function takes the types of its inputs
+  function_takes : (x : AExpr) (f : EvaluatedFunction) → IsFunction x f → (r : IsReady kernels frame table x) → Takes (frame_catalog kernels frame) (root.Function f) r.types r.value_type
+  function_takes x f is r = subst (λ (n : Root). Takes (frame_catalog kernels frame) n r.types r.value_type) is r.takes
+
+  pub one_input : (x : AExpr) (f : EvaluatedFunction) → IsFunction x f → IsOfOne f → IsReady kernels frame table x → OneInput x f
+  one_input x f is one ready =
+      let takes = function_takes x f is ready in
+      let (j, e) = types_of_one f one ready.types ready.value_type takes in
       let (a, i, ka) = one_column j ready.types ready.columns e ready.typed in
-      let maps = all_of-is (map (rows_at table) (expr_places input.entries)) ready.columns ready.all ∙ ap (map Some) i in
-      let (n, are, h) = single (expr_places input.entries) a maps in
+      let maps = all_of-is (map (rows_at table) (inputs_of x)) ready.columns ready.all ∙ ap (map Some) i in
+      let (n, are, h) = single (inputs_of x) a maps in
       record {
         place = n;
         rows = a;
         are = are;
         holds = h;
-        takes = subst (λ (z : ValueType). TakesOne f z) (sym ka.value_type) (one_takes f ready.types j ready.value_type ready.takes e);
-        case = record { gives = gives_of (ir.Function input f own) ready ∙ ap (function_rows f) i; fault = refl };
+        takes = subst (λ (z : ValueType). TakesOne f z) (sym ka.value_type) (one_takes f ready.types j ready.value_type takes e);
+        case = record { gives = gives_of x ready ∙ (ap (λ (n : Root). own_rows kernels frame n ready.columns) is ∙ ap (function_rows f) i); fault = sym (ap fault_of is) };
       }
 
-  pub one_input : (x : AExpr) (f : FunctionExpr) → IsFunction x f → IsOfOne f → IsReady kernels frame table x → OneInput x f
-  one_input x f fn one ready =
-      subst (λ (z : AExpr). OneInput z f) (sym fn.is) (one_at fn.input f fn.own one (subst (λ (z : AExpr). IsReady kernels frame table z) fn.is ready))
-
   -- what was read of that input
-  pub one_read : (x : AExpr) (f : FunctionExpr) (m : ℕ) (v : TypedRows) (o : OneInput x f) → slice_get (inputs_of x) 0 ≡ Some m → rows_at table m ≡ Some v → v ≡ o.rows
+  pub one_read : (x : AExpr) (f : EvaluatedFunction) (m : ℕ) (v : TypedRows) (o : OneInput x f) → slice_get (inputs_of x) 0 ≡ Some m → rows_at table m ≡ Some v → v ≡ o.rows
   one_read x f m v o at h =
       let s : Some o.place ≡ Some m = sym (ap (λ (z : List ℕ). slice_get z 0) o.are) ∙ at in
       let same : o.place ≡ m = cc in
       let t : Some v ≡ Some o.rows = sym h ∙ (ap (rows_at table) (sym same) ∙ o.holds) in cc
 
-  pub one_held : (x : AExpr) (f : FunctionExpr) (m : ℕ) (o : OneInput x f) → slice_get (inputs_of x) 0 ≡ Some m → IsSome (rows_at table m)
+  pub one_held : (x : AExpr) (f : EvaluatedFunction) (m : ℕ) (o : OneInput x f) → slice_get (inputs_of x) 0 ≡ Some m → IsSome (rows_at table m)
   one_held x f m o at =
       let s : Some o.place ≡ Some m = sym (ap (λ (z : List ℕ). slice_get z 0) o.are) ∙ at in
       let same : o.place ≡ m = cc in
@@ -398,13 +403,13 @@ module _ (kernels : List Kernel) (frame : List Contents) (fits : Fits frame (sch
   integer_of value_type.UInt32 e = tt
   integer_of value_type.UInt64 e = tt
 
-  three_at : (input : Entries ExprIR) (o : FusedOperator) (own : FunctionOptions) → IsReady kernels frame table (ir.Function input (function.Fused o) own) → ThreeInputs (ir.Function input (function.Fused o) own) o
-  three_at input o own ready =
+  pub three_inputs : (x : AExpr) (o : FusedOperator) → IsFunction x (function.Fused o) → IsReady kernels frame table x → ThreeInputs x o
+  three_inputs x o is ready =
       let k = ready.value_type in
-      let (e, int) = fused-types (frame_catalog kernels frame) o ready.types k ready.takes in
+      let (e, int) = fused-types (frame_catalog kernels frame) o ready.types k (function_takes x (function.Fused o) is ready) in
       let (a, b, d, i, ka, kb, kd) = three_columns k k k ready.types ready.columns e ready.typed in
-      let maps = all_of-is (map (rows_at table) (expr_places input.entries)) ready.columns ready.all ∙ ap (map Some) i in
-      let (p, q, r, are, ha, hb, hd) = triple (expr_places input.entries) a b d maps in
+      let maps = all_of-is (map (rows_at table) (inputs_of x)) ready.columns ready.all ∙ ap (map Some) i in
+      let (p, q, r, are, ha, hb, hd) = triple (inputs_of x) a b d maps in
       record {
         first = p;
         second = q;
@@ -419,12 +424,8 @@ module _ (kernels : List Kernel) (frame : List Contents) (fits : Fits frame (sch
         integer = subst (λ (z : ValueType). IsInteger z) (sym ka.value_type) (integer_of k int);
         same = ka.value_type ∙ sym kb.value_type;
         also = kb.value_type ∙ sym kd.value_type;
-        case = record { gives = gives_of (ir.Function input (function.Fused o) own) ready ∙ ap (function_rows (function.Fused o)) i; fault = refl };
+        case = record { gives = gives_of x ready ∙ (ap (λ (n : Root). own_rows kernels frame n ready.columns) is ∙ ap (function_rows (function.Fused o)) i); fault = sym (ap fault_of is) };
       }
-
-  pub three_inputs : (x : AExpr) (o : FusedOperator) → IsFunction x (function.Fused o) → IsReady kernels frame table x → ThreeInputs x o
-  three_inputs x o fn ready =
-      subst (λ (z : AExpr). ThreeInputs z o) (sym fn.is) (three_at fn.input o fn.own (subst (λ (z : AExpr). IsReady kernels frame table z) fn.is ready))
 
   -- the place at an index of a list of three
   pub place_is : (ns ms : List ℕ) (i m n : ℕ) → ns ≡ ms → slice_get ns i ≡ Some m → slice_get ms i ≡ Some n → n ≡ m

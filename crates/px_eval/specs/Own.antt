@@ -2,10 +2,8 @@
 use Rattle.std.specs.Prelude.{◌≡◌, ◌⊎◌, ℕ, List, [], ◌∷◌, map, Option, Some, None, Result, Ok, Err, option_and_then}
 use Rattle.px_base.specs.declared.error.PlanError.{PlanError}
 use Rattle.px_base.specs.declared.error.PlanError.TheVariants.{OutOfMemory, ShapeMismatch, InvalidCast}
-use Rattle.px_base.specs.declared.list.List.{List as Entries}
-use Rattle.px_types.specs.declared.options.FunctionOptions.{FunctionOptions}
-use Rattle.px_types.specs.declared.function.FunctionExpr.{FunctionExpr}
-use Rattle.px_types.specs.declared.function.FunctionExpr.TheVariants as function
+use Rattle.px_functions.specs.declared.evaluated.EvaluatedFunction.{EvaluatedFunction}
+use Rattle.px_functions.specs.declared.evaluated.EvaluatedFunction.TheVariants as function
 use Rattle.px_types.specs.declared.operator.Operator.{Operator}
 use Rattle.px_types.specs.declared.value_type.ValueType.{ValueType}
 use Rattle.px_semantics.specs.Casts.{cast_to}
@@ -24,8 +22,6 @@ use Rattle.px_meaning.specs.Signatures.{OfType, Signature, group_of, group_type,
 use Rattle.px_meaning.proofs.Means.{AreColumns}
 use Rattle.px_arena.specs.declared.node.AExpr.{AExpr}
 use Rattle.px_arena.specs.Denotes.{root_of, inputs_of}
-use Rattle.px_arena.specs.declared.node.AExpr.TheVariants as ir
-use Rattle.px_arena.specs.declared.node.ExprIR.{ExprIR}
 use Rattle.px_column.specs.declared.buffer.Buffer.{Buffer}
 use Rattle.px_column.specs.Buffers as buffers
 use Rattle.px_eval.specs.declared.table.Rows.{Rows}
@@ -76,7 +72,7 @@ pub record TakesTwo (o : Operator) (a b : ValueType) : Type 0 where
   pub same : a ≡ b
 
 -- the function takes one column of such a type
-abbrev pub TakesOne : FunctionExpr → ValueType → Type 0
+abbrev pub TakesOne : EvaluatedFunction → ValueType → Type 0
 TakesOne f k = (s : Signature) × (function_signature f (OfType k ∷ []) ≡ Some s)
 
 -- the rows of the buffer, or its error; out of memory too
@@ -87,12 +83,10 @@ IsOwned (Err e) (Err f) = e ≡ f
 IsOwned (Ok r) (Err f) = ⊥
 
 -- the node is this function
-pub record IsFunction (x : AExpr) (f : FunctionExpr) : Type 0 where
-  pub input : Entries ExprIR
-  pub own : FunctionOptions
-  pub is : x ≡ ir.Function input f own
+abbrev pub IsFunction : AExpr → EvaluatedFunction → Type 0
+IsFunction x f = root_of x ≡ root.Function f
 
 -- the function has one input
-abbrev pub IsOfOne : FunctionExpr → Type 0
+abbrev pub IsOfOne : EvaluatedFunction → Type 0
 IsOfOne (function.Fused f) = ⊥
 IsOfOne _ = Unit {0}

@@ -12,8 +12,9 @@ ghost use Rattle.px_eval.specs.Own.{TakesOne};
 
 use px_arrays::BooleanArray;
 use px_column::Buffer;
+use px_functions::{EvaluatedBoolean, EvaluatedFunction};
 use px_kernels::{fused_buffers, negate_buffer};
-use px_types::{BooleanFunction, FunctionExpr, FusedOperator, PlanError};
+use px_types::{FusedOperator, PlanError};
 use std::alloc::{AllocError, Global};
 
 /// Row by row whether it is null.
@@ -42,16 +43,16 @@ fn inverse(alloc: Global, a: &Buffer) -> Result<Buffer, AllocError>
 }
 
 /// Row by row what the function gives of a buffer of a type that it takes.
-pub fn call_one(alloc: Global, function: &FunctionExpr, a: &Buffer) -> Result<Buffer, PlanError>
-    requires { TakesOne function.now (type_of a.now) }
-    ensures { GivesOr PlanError.ShapeMismatch (λ b. values_of b) result (function_rows function.now (values_of a.now ∷ [])) }
+pub fn call_one(alloc: Global, function: EvaluatedFunction, a: &Buffer) -> Result<Buffer, PlanError>
+    requires { TakesOne function (type_of a.now) }
+    ensures { GivesOr PlanError.ShapeMismatch (λ b. values_of b) result (function_rows function (values_of a.now ∷ [])) }
 {
     match function {
-        FunctionExpr::Boolean(BooleanFunction::IsNull) => Ok(null_tests(alloc, a)?),
-        FunctionExpr::Boolean(BooleanFunction::IsNotNull) => Ok(value_tests(alloc, a)?),
-        FunctionExpr::Boolean(BooleanFunction::Not) => Ok(inverse(alloc, a)?),
-        FunctionExpr::Negate => negate_buffer(alloc, a),
-        FunctionExpr::Fused(_) => unreachable!(),
+        EvaluatedFunction::Boolean(EvaluatedBoolean::IsNull) => Ok(null_tests(alloc, a)?),
+        EvaluatedFunction::Boolean(EvaluatedBoolean::IsNotNull) => Ok(value_tests(alloc, a)?),
+        EvaluatedFunction::Boolean(EvaluatedBoolean::Not) => Ok(inverse(alloc, a)?),
+        EvaluatedFunction::Negate => negate_buffer(alloc, a),
+        EvaluatedFunction::Fused(_) => unreachable!(),
     }
 }
 

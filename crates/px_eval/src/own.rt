@@ -3,7 +3,7 @@ ghost use Rattle.std.specs.Prelude.{◌≡◌, ◌⊎◌, IfOk, IfErr, IfSome, I
 ghost use Rattle.px_base.specs.Answer.{GivesOr};
 ghost use Rattle.px_semantics.specs.Casts.{HasCast};
 ghost use Rattle.px_types.specs.ValueTypes.{value_type_of};
-ghost use Rattle.px_types.specs.declared.function.FunctionExpr.TheVariants.{Fused};
+ghost use Rattle.px_functions.specs.declared.evaluated.EvaluatedFunction.TheVariants.{Fused};
 ghost use Rattle.px_meaning.specs.Schema.{Fits, schema_of};
 ghost use Rattle.px_eval.specs.Own.{IsReady, IsAnswer, IsReason, IsOwned, IsFunction, IsOfOne, cast_at};
 ghost use Rattle.px_eval.specs.Table.{rows_at, values_of};
@@ -15,7 +15,8 @@ use crate::table::{Rows, Table};
 use px_arena::{AExpr, Node};
 use px_column::{Buffer, Frame};
 use px_expr::Kernels;
-use px_types::{CastOptions, DataType, FunctionExpr, FusedOperator, PlanError};
+use px_functions::EvaluatedFunction;
+use px_types::{CastOptions, DataType, FusedOperator, PlanError};
 use std::alloc::Global;
 
 /// The buffer as an answer.
@@ -34,13 +35,13 @@ fn own_one<'f, K: Kernels>(
     frame: &Frame,
     kernels: &K,
     expr: &AExpr,
-    function: &FunctionExpr,
+    function: EvaluatedFunction,
     table: &Table<'f>,
 ) -> Result<Rows<'f>, PlanError>
     requires fits { Fits frame.now (schema_of frame.now) }
     requires ready { IsReady (K.definitions kernels.now) frame.now table.now expr.now }
-    requires is { IsFunction expr.now function.now }
-    requires one { IsOfOne function.now }
+    requires is { IsFunction expr.now function }
+    requires one { IsOfOne function }
     ensures ok { IfOk result (λ r. IsAnswer (K.definitions kernels.now) frame.now table.now expr.now r) }
     ensures err { IfErr result (λ e. IsReason (K.definitions kernels.now) frame.now table.now expr.now e) }
 {
@@ -75,19 +76,19 @@ fn own_function<'f, K: Kernels>(
     frame: &Frame,
     kernels: &K,
     expr: &AExpr,
-    function: &FunctionExpr,
+    function: EvaluatedFunction,
     table: &Table<'f>,
 ) -> Result<Rows<'f>, PlanError>
     requires fits { Fits frame.now (schema_of frame.now) }
     requires ready { IsReady (K.definitions kernels.now) frame.now table.now expr.now }
-    requires is { IsFunction expr.now function.now }
+    requires is { IsFunction expr.now function }
     ensures ok { IfOk result (λ r. IsAnswer (K.definitions kernels.now) frame.now table.now expr.now r) }
     ensures err { IfErr result (λ e. IsReason (K.definitions kernels.now) frame.now table.now expr.now e) }
 {
     match function {
-        FunctionExpr::Fused(op) => own_fused(alloc, frame, kernels, expr, *op, table),
-        FunctionExpr::Boolean(_) => own_one(alloc, frame, kernels, expr, function, table),
-        FunctionExpr::Negate => own_one(alloc, frame, kernels, expr, function, table),
+        EvaluatedFunction::Fused(op) => own_fused(alloc, frame, kernels, expr, op, table),
+        EvaluatedFunction::Boolean(_) => own_one(alloc, frame, kernels, expr, function, table),
+        EvaluatedFunction::Negate => own_one(alloc, frame, kernels, expr, function, table),
     }
 }
 
@@ -156,9 +157,10 @@ pub fn own_rows<'f, K: Kernels>(
             let second = table.at(*falsy);
             owned(alloc, select_by_mask(alloc, mask, first, second))
         }
-        AExpr::Function { function, .. } => own_function(
-            alloc, frame, kernels, expr, function, table,
-        ),
+        AExpr::Function { function, .. } => match function.evaluated() {
+            Some(own) => own_function(alloc, frame, kernels, expr, own, table),
+            None => unreachable!(),
+        },
         AExpr::Gather { .. } => unreachable!(),
         AExpr::Slice { .. } => unreachable!(),
         AExpr::Filter { .. } => unreachable!(),

@@ -1,8 +1,10 @@
 -- Trees: expressions as plain data, each a node over the list of its inputs. The options of a function are
 -- left out: two expressions that differ in them alone are one tree.
-use Rattle.std.specs.Prelude.{ℕ, ℤ, Bool, List, [], ◌∷◌}
+use Rattle.std.specs.Prelude.{ℕ, ℤ, Bool, List, [], ◌∷◌, Option, Some, None}
 use Rattle.px_types.specs.declared.dtype.DataType.{DataType}
-use Rattle.px_types.specs.declared.function.FunctionExpr.{FunctionExpr}
+use Rattle.px_functions.specs.declared.evaluated.EvaluatedFunction.{EvaluatedFunction}
+use Rattle.px_functions.specs.declared.function.FunctionExpr.{FunctionExpr}
+use Rattle.px_functions.specs.Evaluated.{evaluated}
 use Rattle.px_types.specs.declared.type_parts.CastOptions.{CastOptions}
 use Rattle.px_types.specs.declared.type_parts.QuantileMethod.{QuantileMethod}
 use Rattle.px_types.specs.declared.operator.Operator.{Operator}
@@ -44,7 +46,9 @@ pub data Node : Type 0 where
   Filter : Node
   Ternary : Node
   Agg : Aggregate → Node
-  Function : FunctionExpr → Node
+  Function : EvaluatedFunction → Node
+  -- a function that is not evaluated
+  OtherFunction : FunctionExpr → Node
   AnonymousFunction : ℕ → Node
   Explode : Node
   Exclude : List Excluded → Node
@@ -63,6 +67,14 @@ mutual
 abbrev pub trees : List Tree → Trees
 trees [] = none
 trees (t ∷ ts) = more t (trees ts)
+
+abbrev pub node_for : FunctionExpr → Option EvaluatedFunction → Node
+node_for f (Some own) = Function own
+node_for f None = OtherFunction f
+
+-- the node of a function
+abbrev pub function_node : FunctionExpr → Node
+function_node f = node_for f (evaluated f)
 
 -- a node over a list of inputs
 abbrev pub over : Node → List Tree → Tree
@@ -100,7 +112,7 @@ layer (Expr-F.Slice t offset length) = over Slice (t ∷ offset ∷ length ∷ [
 layer (Expr-F.Filter t by) = over Filter (t ∷ by ∷ [])
 layer (Expr-F.Ternary p t f) = over Ternary (p ∷ t ∷ f ∷ [])
 layer (Expr-F.Agg a) = over (Agg a.0) a.1
-layer (Expr-F.Function input function options) = over (Function function) input.entries
+layer (Expr-F.Function input function options) = over (function_node function) input.entries
 layer (Expr-F.AnonymousFunction input kernel options) = over (AnonymousFunction kernel) input.entries
 layer (Expr-F.Explode t) = over Explode (t ∷ [])
 layer (Expr-F.Exclude t excluded) = over (Exclude excluded.entries) (t ∷ [])

@@ -2,9 +2,10 @@
 ghost use Rattle.px_base.specs.Answer.{GivesOrMemory};
 
 use crate::literal::LiteralValue;
+use px_functions::FunctionExpr;
 use px_types::{
-    Boxed, CastOptions, DataType, FunctionExpr, FunctionOptions, List, Operator, PlanError,
-    QuantileMethod, SmallStr, TryClone, TypeList,
+    Boxed, CastOptions, DataType, FunctionOptions, List, Operator, PlanError, QuantileMethod,
+    SmallStr, TryClone, TypeList,
 };
 use std::alloc::Global;
 

@@ -5,7 +5,7 @@ use Rattle.serde_json.specs.Data.{Data, string, array}
 use Rattle.serde_json.specs.View.{view, items_of}
 use Rattle.serde_json.specs.declared.value.Value.{Value}
 use Rattle.px_base.specs.declared.error.PlanError.{PlanError}
-use Rattle.px_types.specs.declared.function.FunctionExpr.{FunctionExpr}
+use Rattle.px_functions.specs.declared.evaluated.EvaluatedFunction.{EvaluatedFunction}
 use Rattle.px_expr.specs.Tree.{Node, Tree, over, tree_of}
 use Rattle.px_expr.specs.declared.expr.Expr.{Expr}
 use Rattle.px_base.specs.Answer.{GivesSeen}
@@ -35,7 +35,7 @@ written_all ts before (Ok o) none e = e ∙ ap (λ (ds : List Data). option_map 
 written_all ts before (Err f) none e = e
 
 -- a function is written as its text and its inputs after it
-pub function_written : (f : FunctionExpr) (ts : List Tree) (before : List Data) (o : Option (List Data)) → before ≡ string (function_text f) ∷ [] → o ≡ option_map (λ us. before ++ us) (all_data ts)
+pub function_written : (f : EvaluatedFunction) (ts : List Tree) (before : List Data) (o : Option (List Data)) → before ≡ string (function_text f) ∷ [] → o ≡ option_map (λ us. before ++ us) (all_data ts)
     → option_map (λ ds. single_member (codes "fn") (array (items_of ds))) o ≡ data_of (over (Node.Function f) ts)
 function_written f ts before o is e = rw (e, is, fold_trees-trees node_data ts) (go (all_data ts))
   where

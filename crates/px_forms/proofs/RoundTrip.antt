@@ -14,9 +14,9 @@ use Rattle.px_types.specs.declared.dtype.DataType.{DataType, DataType-F, out-Dat
 use Rattle.px_types.specs.declared.dtype.DataType.TheVariants as dtype
 use Rattle.px_types.specs.declared.dtype.DataType.TheViews.{roll-DataType, roll-out-DataType}
 use Rattle.px_types.specs.declared.dtype.Field.{Field}
-use Rattle.px_types.specs.declared.function.BooleanFunction.TheVariants.{IsNull, IsNotNull, Not}
-use Rattle.px_types.specs.declared.function.FunctionExpr.{FunctionExpr}
-use Rattle.px_types.specs.declared.function.FunctionExpr.TheVariants as function
+use Rattle.px_functions.specs.declared.evaluated.EvaluatedBoolean.TheVariants.{IsNull, IsNotNull, Not}
+use Rattle.px_functions.specs.declared.evaluated.EvaluatedFunction.{EvaluatedFunction}
+use Rattle.px_functions.specs.declared.evaluated.EvaluatedFunction.TheVariants as function
 use Rattle.px_types.specs.declared.function.FusedOperator.TheVariants.{MultiplyAdd, SubMultiply, MultiplySub}
 use Rattle.px_types.specs.declared.type_parts.CastOptions.{CastOptions}
 use Rattle.px_types.specs.declared.type_parts.CastOptions.TheVariants.{Strict, NonStrict, Overflowing}
@@ -28,7 +28,9 @@ use Rattle.px_semantics.proofs.ColumnLemmas.{is_column-column}
 use Rattle.px_expr.specs.declared.expr.Expr.{Expr}
 use Rattle.px_expr.specs.declared.literal.LiteralValue.{LiteralValue}
 use Rattle.px_expr.specs.declared.literal.LiteralValue.TheVariants as value
-use Rattle.px_expr.specs.Tree.{Node, Tree, Trees, tree, trees, none, more, over, tree_of, fold_trees}
+use Rattle.px_meaning.proofs.EvaluatedFunctions.{evaluated_of}
+use Rattle.px_functions.specs.Evaluated.{of_evaluated}
+use Rattle.px_expr.specs.Tree.{Node, node_for, Tree, Trees, tree, trees, none, more, over, tree_of, fold_trees}
 use Rattle.px_meaning.specs.Literals.{literal_of}
 use Rattle.px_meaning.proofs.Shapes.{map-parts}
 use Rattle.px_base.specs.Answer.{GivesSeen}
@@ -69,7 +71,7 @@ operator_named-operator_name Xor = refl
 operator_named-operator_name LogicalAnd = refl
 operator_named-operator_name LogicalOr = refl
 
-function_named-function_text : (f : FunctionExpr) → function_named (function_text f) ≡ Some f
+function_named-function_text : (f : EvaluatedFunction) → function_named (function_text f) ≡ Some f
 unfolding function_named function_text
 function_named-function_text (function.Boolean IsNull) = refl
 function_named-function_text (function.Boolean IsNotNull) = refl
@@ -213,11 +215,11 @@ ternary_reads p t f x y z hp ht hf =
 abbrev ReadAllAs : List Data → Trees → Type 0
 ReadAllAs ds ts = (es : List Expr) × (exprs_of (items_of ds) ≡ Some es) × (trees (map tree_of es) ≡ ts)
 
-function_reads : (f : FunctionExpr) (ts : Trees) (ds : List Data) → ReadAllAs ds ts → ReadsAs (function_data f ds) (tree (Node.Function f) ts)
+function_reads : (f : EvaluatedFunction) (ts : Trees) (ds : List Data) → ReadAllAs ds ts → ReadsAs (function_data f ds) (tree (Node.Function f) ts)
 unfolding form_named
 function_reads f ts ds (es, are, same) =
     let input : Entries Expr = record { entries = es } in
-    rw (function_named-function_text f, are) (ap Some (tree_of-Function input f element_wise ∙ ap (tree (Node.Function f)) same))
+    rw (function_named-function_text f, are) (ap Some (tree_of-Function input (of_evaluated f) element_wise ∙ (ap (λ (o : Option EvaluatedFunction). tree (node_for (of_evaluated f) o) (trees (map tree_of es))) (evaluated_of f) ∙ ap (tree (Node.Function f)) same)))
 
 more_read : (t : Tree) (ts : Trees) (x : Data) (xs : List Data) (f : Expr) (es : List Expr) → expr_of x ≡ Some f → exprs_of (items_of xs) ≡ Some es → tree_of f ≡ t → trees (map tree_of es) ≡ ts → ReadAllAs (x ∷ xs) (more t ts)
 more_read t ts x xs f es read all_read same all_same = (f ∷ es, rw (read, all_read) refl, rw (same, all_same) refl)

@@ -2,7 +2,7 @@
 use Rattle.std.proofs.Common.{◌≡◌, ℕ, suc, ◌≤◌, ◌<◌, zero, List, [], ◌∷◌, map, length, get_or, sum, refl, sym, ap, ◌∙◌, arith}
 use Rattle.px_base.specs.declared.list.List.{List as Entries}
 use Rattle.px_types.specs.declared.dtype.DataType.{DataType}
-use Rattle.px_types.specs.declared.function.FunctionExpr.{FunctionExpr}
+use Rattle.px_functions.specs.declared.function.FunctionExpr.{FunctionExpr}
 use Rattle.px_types.specs.declared.type_parts.CastOptions.{CastOptions}
 use Rattle.px_types.specs.declared.operator.Operator.{Operator}
 use Rattle.px_types.specs.declared.options.FunctionOptions.{FunctionOptions}
@@ -11,7 +11,7 @@ use Rattle.px_expr.specs.declared.expr.Expr.{Expr, fold-roll-Expr}
 use Rattle.px_expr.specs.declared.expr.Expr.TheVariants as expr
 use Rattle.px_expr.specs.declared.expr.AggExpr.TheOpen.{Expr-F}
 use Rattle.px_meaning.proofs.Weights.{sum-cons}
-use Rattle.px_expr.specs.Tree.{Aggregate, Node, Tree, trees, over, agg_layer, layer, tree_of, fold_tree, fold_trees}
+use Rattle.px_expr.specs.Tree.{Aggregate, Node, function_node, Tree, trees, over, agg_layer, layer, tree_of, fold_tree, fold_trees}
 
 pub tree_of-Alias : (e : Expr) (name : List ℕ) → tree_of (expr.Alias e name) ≡ over (Node.Alias name) (tree_of e ∷ [])
 tree_of-Alias e name = ap tree_of (sym (expr.rolls-Alias e name)) ∙ fold-roll-Expr (Aggregate × List Tree) Tree agg_layer layer (Expr-F.Alias e name)
@@ -31,7 +31,7 @@ tree_of-Cast e dtype options = ap tree_of (sym (expr.rolls-Cast e dtype options)
 pub tree_of-Ternary : (p t f : Expr) → tree_of (expr.Ternary p t f) ≡ over Node.Ternary (tree_of p ∷ tree_of t ∷ tree_of f ∷ [])
 tree_of-Ternary p t f = ap tree_of (sym (expr.rolls-Ternary p t f)) ∙ fold-roll-Expr (Aggregate × List Tree) Tree agg_layer layer (Expr-F.Ternary p t f)
 
-pub tree_of-Function : (es : Entries Expr) (f : FunctionExpr) (options : FunctionOptions) → tree_of (expr.Function es f options) ≡ over (Node.Function f) (map tree_of es.entries)
+pub tree_of-Function : (es : Entries Expr) (f : FunctionExpr) (options : FunctionOptions) → tree_of (expr.Function es f options) ≡ over (function_node f) (map tree_of es.entries)
 tree_of-Function es f options = ap tree_of (sym (expr.rolls-Function es f options)) ∙ fold-roll-Expr (Aggregate × List Tree) Tree agg_layer layer (Expr-F.Function es f options)
 
 -- a fold over the inputs goes input by input

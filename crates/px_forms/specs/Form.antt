@@ -3,7 +3,8 @@ use Rattle.std.specs.Prelude.{List, [], ◌∷◌, codes, Option, Some, None, op
 use Rattle.serde_json.specs.Data.{Data, null, boolean, number, string, array, object, Items, no_items, item, Members, no_members, member}
 use Rattle.serde_json.specs.Find.{as_str, as_integer}
 use Rattle.px_types.specs.ValueTypes.{dtype_of, holds}
-use Rattle.px_types.specs.declared.function.FunctionExpr.{FunctionExpr}
+use Rattle.px_functions.specs.declared.evaluated.EvaluatedFunction.{EvaluatedFunction}
+use Rattle.px_functions.specs.Evaluated.{of_evaluated}
 use Rattle.px_types.specs.declared.type_parts.CastOptions.{CastOptions}
 use Rattle.px_types.specs.declared.operator.Operator.{Operator}
 use Rattle.px_types.specs.declared.value_type.ValueType.{ValueType}
@@ -112,7 +113,7 @@ abbrev pub element_wise : FunctionOptions
 element_wise = record { collect_groups = ElementWise; flags = record { 0 = 1 }; fmt_str = Empty; cast_options = None }
 
 -- a function, by its text
-abbrev pub function_in : Data → Option FunctionExpr
+abbrev pub function_in : Data → Option EvaluatedFunction
 function_in d = option_and_then function_named (as_str d)
 
 -- [text, input, ..]
@@ -120,7 +121,7 @@ abbrev pub function : List Part → Option Expr
 function (name ∷ inputs) = do
   f ← function_in name.0
   es ← all_of (map (λ p. p.1) inputs)
-  Some (expr.Function (record { entries = es }) f element_wise)
+  Some (expr.Function (record { entries = es }) (of_evaluated f) element_wise)
 function [] = None
 
 -- a form whose member is a list

@@ -1,8 +1,8 @@
 -- The names of forms, operators, functions, options of casts and types of literals.
 use Rattle.std.specs.Prelude.{ℕ, List, codes, bytes_eq, if◌then◌else◌, Option, Some, None, option_map}
-use Rattle.px_types.specs.declared.function.BooleanFunction.TheVariants.{IsNull, IsNotNull, Not}
-use Rattle.px_types.specs.declared.function.FunctionExpr.{FunctionExpr}
-use Rattle.px_types.specs.declared.function.FunctionExpr.TheVariants as function
+use Rattle.px_functions.specs.declared.evaluated.EvaluatedBoolean.TheVariants.{IsNull, IsNotNull, Not}
+use Rattle.px_functions.specs.declared.evaluated.EvaluatedFunction.{EvaluatedFunction}
+use Rattle.px_functions.specs.declared.evaluated.EvaluatedFunction.TheVariants as function
 use Rattle.px_types.specs.declared.function.FusedOperator.TheVariants.{MultiplyAdd, SubMultiply, MultiplySub}
 use Rattle.px_types.specs.declared.type_parts.CastOptions.{CastOptions}
 use Rattle.px_types.specs.declared.type_parts.CastOptions.TheVariants.{Strict, NonStrict, Overflowing}
@@ -77,7 +77,7 @@ operator_named name =
     else None)))))))))))))))))))
 
 -- the text of a function
-unfoldable pub function_text : FunctionExpr → List ℕ
+unfoldable pub function_text : EvaluatedFunction → List ℕ
 function_text (function.Boolean IsNull) = codes "is_null"
 function_text (function.Boolean IsNotNull) = codes "is_not_null"
 function_text (function.Boolean Not) = codes "not"
@@ -87,7 +87,7 @@ function_text (function.Fused SubMultiply) = codes "fsm"
 function_text (function.Fused MultiplySub) = codes "fms"
 
 -- the function that has the text
-unfoldable pub function_named : List ℕ → Option FunctionExpr
+unfoldable pub function_named : List ℕ → Option EvaluatedFunction
 function_named text =
     if bytes_eq text (codes "is_null") then Some (function.Boolean IsNull)
     else (if bytes_eq text (codes "is_not_null") then Some (function.Boolean IsNotNull)

@@ -5,7 +5,7 @@ use Rattle.serde_json.specs.Find.{of_integer}
 use Rattle.serde_json.specs.View.{items_of}
 use Rattle.px_semantics.specs.Columns.{is_column}
 use Rattle.px_types.specs.ValueTypes.{holds, value_type_of}
-use Rattle.px_types.specs.declared.function.FunctionExpr.{FunctionExpr}
+use Rattle.px_functions.specs.declared.evaluated.EvaluatedFunction.{EvaluatedFunction}
 use Rattle.px_types.specs.declared.type_parts.CastOptions.{CastOptions}
 use Rattle.px_types.specs.declared.operator.Operator.{Operator}
 use Rattle.px_types.specs.declared.value_type.ValueType.{ValueType}
@@ -73,7 +73,7 @@ abbrev pub ternary_data : Data → Data → Data → Data
 ternary_data p t f = single_member (codes "when") (triple p t f)
 
 -- {"fn": [text, e, ..]}
-abbrev pub function_data : FunctionExpr → List Data → Data
+abbrev pub function_data : EvaluatedFunction → List Data → Data
 function_data f ds = single_member (codes "fn") (array (items_of (string (function_text f) ∷ ds)))
 
 -- a node over the values of its inputs

@@ -6,16 +6,18 @@ ghost use Rattle.px_base.specs.Answer.{GivesOrMemory, GivesSeen};
 ghost use Rattle.px_types.specs.ValueTypes.{dtype_of};
 ghost use Rattle.px_json.specs.Built.{single_member};
 ghost use Rattle.px_forms.specs.Form.{element_wise};
+ghost use Rattle.px_functions.specs.Evaluated.{of_evaluated};
 ghost use Rattle.px_forms.specs.Names.{function_text};
 ghost use Rattle.px_forms.specs.Written as written;
 
 use crate::literal::{self, LiteralType};
 use crate::{names, operator};
 use px_expr::{Expr, ExprList};
+use px_functions::{EvaluatedFunction, FunctionExpr};
 use px_json::{pair, single_member, text_value, triple, value_type_name};
 use px_types::{
-    ApplyOptions, CastOptions, FmtName, FunctionExpr, FunctionFlags, FunctionOptions, Operator,
-    PlanError, ValueType, boxed,
+    ApplyOptions, CastOptions, FmtName, FunctionFlags, FunctionOptions, Operator, PlanError,
+    ValueType, boxed,
 };
 use serde_json::{Value, json};
 use std::alloc::Global;
@@ -49,12 +51,12 @@ fn element_wise() -> FunctionOptions
 }
 
 /// The function over its inputs, element by element.
-pub(crate) fn function(function: FunctionExpr, input: ExprList) -> Expr
-    ensures { result ≡ Expr.Function input function element_wise }
+pub(crate) fn function(function: EvaluatedFunction, input: ExprList) -> Expr
+    ensures { result ≡ Expr.Function input (of_evaluated function) element_wise }
 {
     Expr::Function {
         input,
-        function,
+        function: FunctionExpr::from(function),
         options: element_wise(),
     }
 }
@@ -135,9 +137,9 @@ pub(crate) fn ternary_value(
 /// The list that a function's inputs are written after: its name alone.
 pub(crate) fn function_front(
     alloc: Global,
-    function: &FunctionExpr,
+    function: EvaluatedFunction,
 ) -> Result<Vec<Value>, PlanError>
-    ensures { GivesSeen (λ v. map view v.items) result (string (function_text function.now) ∷ []) }
+    ensures { GivesSeen (λ v. map view v.items) result (string (function_text function) ∷ []) }
 {
     let mut items = Vec::new(alloc);
     let text = text_value(alloc, names::function_text(function))?;

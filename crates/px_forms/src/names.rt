@@ -2,41 +2,42 @@
 ghost use Rattle.std.specs.Prelude.{◌≡◌};
 ghost use Rattle.px_forms.specs.Names.{function_text, function_named, cast_name, cast_named};
 
-use px_types::{BooleanFunction, CastOptions, FunctionExpr, FusedOperator};
+use px_functions::{EvaluatedBoolean, EvaluatedFunction};
+use px_types::{CastOptions, FusedOperator};
 
 #[tactic(auto, unfolding(crate::specs::Names::function_text))]
-pub(crate) fn function_text(function: &FunctionExpr) -> &'static str
-    ensures { result.now ≡ function_text function.now }
+pub(crate) fn function_text(function: EvaluatedFunction) -> &'static str
+    ensures { result.now ≡ function_text function }
 {
     match function {
-        FunctionExpr::Boolean(BooleanFunction::IsNull) => "is_null",
-        FunctionExpr::Boolean(BooleanFunction::IsNotNull) => "is_not_null",
-        FunctionExpr::Boolean(BooleanFunction::Not) => "not",
-        FunctionExpr::Negate => "negate",
-        FunctionExpr::Fused(FusedOperator::MultiplyAdd) => "fma",
-        FunctionExpr::Fused(FusedOperator::SubMultiply) => "fsm",
-        FunctionExpr::Fused(FusedOperator::MultiplySub) => "fms",
+        EvaluatedFunction::Boolean(EvaluatedBoolean::IsNull) => "is_null",
+        EvaluatedFunction::Boolean(EvaluatedBoolean::IsNotNull) => "is_not_null",
+        EvaluatedFunction::Boolean(EvaluatedBoolean::Not) => "not",
+        EvaluatedFunction::Negate => "negate",
+        EvaluatedFunction::Fused(FusedOperator::MultiplyAdd) => "fma",
+        EvaluatedFunction::Fused(FusedOperator::SubMultiply) => "fsm",
+        EvaluatedFunction::Fused(FusedOperator::MultiplySub) => "fms",
     }
 }
 
 #[tactic(auto, unfolding(crate::specs::Names::function_named))]
-pub(crate) fn function_named(text: &str) -> Option<FunctionExpr>
+pub(crate) fn function_named(text: &str) -> Option<EvaluatedFunction>
     ensures { result ≡ function_named text.now }
 {
     if text == "is_null" {
-        Some(FunctionExpr::Boolean(BooleanFunction::IsNull))
+        Some(EvaluatedFunction::Boolean(EvaluatedBoolean::IsNull))
     } else if text == "is_not_null" {
-        Some(FunctionExpr::Boolean(BooleanFunction::IsNotNull))
+        Some(EvaluatedFunction::Boolean(EvaluatedBoolean::IsNotNull))
     } else if text == "not" {
-        Some(FunctionExpr::Boolean(BooleanFunction::Not))
+        Some(EvaluatedFunction::Boolean(EvaluatedBoolean::Not))
     } else if text == "negate" {
-        Some(FunctionExpr::Negate)
+        Some(EvaluatedFunction::Negate)
     } else if text == "fma" {
-        Some(FunctionExpr::Fused(FusedOperator::MultiplyAdd))
+        Some(EvaluatedFunction::Fused(FusedOperator::MultiplyAdd))
     } else if text == "fsm" {
-        Some(FunctionExpr::Fused(FusedOperator::SubMultiply))
+        Some(EvaluatedFunction::Fused(FusedOperator::SubMultiply))
     } else if text == "fms" {
-        Some(FunctionExpr::Fused(FusedOperator::MultiplySub))
+        Some(EvaluatedFunction::Fused(FusedOperator::MultiplySub))
     } else {
         None
     }

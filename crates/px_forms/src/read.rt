@@ -10,10 +10,9 @@ ghost use Rattle.px_forms.specs.Form.{expr_of, exprs_of, parts_of};
 use crate::form::{self, Form, ListForm};
 use crate::{build, literal, names, operator};
 use px_expr::{Expr, ExprList, LiteralValue};
+use px_functions::EvaluatedFunction;
 use px_json::{column_of_value, items_of, only_member, pair_of, triple_of, value_type_named};
-use px_types::{
-    Boxed, CastOptions, FunctionExpr, List, Operator, PlanError, SmallStr, ValueType, boxed,
-};
+use px_types::{Boxed, CastOptions, List, Operator, PlanError, SmallStr, ValueType, boxed};
 use serde_json::Value;
 use std::alloc::Global;
 
@@ -252,7 +251,7 @@ fn function(alloc: Global, items: &[Value]) -> Result<Option<Expr>, PlanError>
     Ok(Some(build::function(function, input)))
 }
 
-fn function_in(value: &Value) -> Option<FunctionExpr>
+fn function_in(value: &Value) -> Option<EvaluatedFunction>
     ensures { result ≡ form_of.function_in (view value.now) }
 {
     names::function_named(value.as_str()?)

@@ -2,7 +2,7 @@
 ghost use Rattle.std.specs.Prelude.{◌≡◌, ◌++◌, ◌∷◌, [], map, option_map, option_and_then, IfOk, IfSome, Some, false};
 ghost use Rattle.serde_json.specs.View.{view, items_view};
 ghost use Rattle.serde_json.specs.Written.{has_float, items_have_float};
-ghost use Rattle.px_expr.specs.Tree.{Alias, Binary, Cast, Ternary, Function, over, tree_of};
+ghost use Rattle.px_expr.specs.Tree.{Alias, Binary, Cast, Ternary, function_node, over, tree_of};
 ghost use Rattle.px_base.specs.Answer.{GivesSeen};
 ghost use Rattle.px_forms.specs.Form.{expr_of};
 ghost use Rattle.px_forms.specs.Written as written;
@@ -12,9 +12,10 @@ use crate::build;
 use crate::literal::LiteralType;
 use px_column::Column;
 use px_expr::{Expr, LiteralValue};
+use px_functions::FunctionExpr;
 use px_integers::Integer;
 use px_json::{integer_value, number_value, single_member, text_value, value_of_column};
-use px_types::{CastOptions, DataType, FunctionExpr, Operator, PlanError, ValueType};
+use px_types::{CastOptions, DataType, Operator, PlanError, ValueType};
 use serde_json::Value;
 use std::alloc::Global;
 
@@ -204,8 +205,11 @@ fn function_value(
     inputs: &[Expr],
 ) -> Result<Option<Value>, PlanError>
     ensures { GivesSeen (option_map view) result
-        (data_of (over (Function function.now) (map tree_of inputs.now))) }
+        (data_of (over (function_node function.now) (map tree_of inputs.now))) }
 {
+    let Some(function) = function.evaluated() else {
+        return Ok(None);
+    };
     let items = build::function_front(alloc, function)?;
     let Some(items) = values_after(alloc, items, inputs)? else {
         return Ok(None);

@@ -1,2 +1,3 @@
 pub mod SmallTypes
 pub mod Texts
+pub mod Evaluated

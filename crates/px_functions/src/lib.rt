@@ -2,10 +2,12 @@
 #![tactic(auto)]
 
 mod duplicate;
+mod evaluated;
 mod function;
 mod small;
 mod text;
 
+pub use evaluated::{EvaluatedBoolean, EvaluatedFunction};
 pub use function::{BooleanFunction, FunctionExpr, is_same_function};
 pub use px_types::{BitwiseFunction, ClosedInterval, FusedOperator};
 pub use small::{

@@ -4,8 +4,8 @@ use Rattle.std.specs.Prelude.{max}
 use Rattle.std.proofs.Math.Nat.{pow-suc}
 use Rattle.std.proofs.Math.Pow.{pow_mono}
 use Rattle.std.proofs.lemmas.Nat.{pow_pos}
-use Rattle.px_types.specs.declared.function.BooleanFunction.TheVariants as boolean
-use Rattle.px_types.specs.declared.function.FunctionExpr.TheVariants as function
+use Rattle.px_functions.specs.declared.evaluated.EvaluatedBoolean.TheVariants as boolean
+use Rattle.px_functions.specs.declared.evaluated.EvaluatedFunction.TheVariants as function
 use Rattle.px_expr.specs.Tree.{Node, Binary, Function, Tree, tree, Trees, none, more, fold_trees}
 use Rattle.px_meaning.specs.Rewriting.{Moves}
 use Rattle.px_meaning.specs.Weight.{load_of, loaded, own_nots, count_nodes, nodes, nots, node_count, not_depth, weight, weights}

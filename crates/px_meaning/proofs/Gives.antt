@@ -13,9 +13,9 @@ use Rattle.px_types.specs.ValueTypes.{holds, default_type, common, common_dtype,
 use Rattle.px_types.specs.declared.dtype.DataType.{out-DataType}
 use Rattle.px_types.specs.declared.dtype.DataType.TheVariants as dtype
 use Rattle.px_types.specs.declared.type_parts.CastOptions.TheVariants.{NonStrict}
-use Rattle.px_types.specs.declared.function.BooleanFunction.TheVariants.{IsNull, IsNotNull, Not}
-use Rattle.px_types.specs.declared.function.FunctionExpr.{FunctionExpr}
-use Rattle.px_types.specs.declared.function.FunctionExpr.TheVariants as function
+use Rattle.px_functions.specs.declared.evaluated.EvaluatedBoolean.TheVariants.{IsNull, IsNotNull, Not}
+use Rattle.px_functions.specs.declared.evaluated.EvaluatedFunction.{EvaluatedFunction}
+use Rattle.px_functions.specs.declared.evaluated.EvaluatedFunction.TheVariants as function
 use Rattle.px_types.specs.declared.value_type.ValueType.{ValueType}
 use Rattle.px_types.specs.declared.value_type.ValueType.TheVariants as value_type
 use Rattle.px_expr.specs.declared.literal.LiteralValue.{LiteralValue}
@@ -381,7 +381,7 @@ ternary-settles os s h e =
         go (Some d) f g = ((d, f), refl)
         go None f g = cc
 
-function-settles : (f : FunctionExpr) (os : List Operand) (s : Signature) → AreCoreOperands os → function_signature f os ≡ Some s → Settles (function_signature f) os s
+function-settles : (f : EvaluatedFunction) (os : List Operand) (s : Signature) → AreCoreOperands os → function_signature f os ≡ Some s → Settles (function_signature f) os s
 function-settles (function.Boolean IsNull) os s h e = unary-settles boolean_result truth-core os s h e
 function-settles (function.Boolean IsNotNull) os s h e = unary-settles boolean_result truth-core os s h e
 function-settles (function.Boolean Not) os s h e = unary-settles number_type (λ j k c g. given-core (is_boolean_or_integer j) j k c g) os s h e

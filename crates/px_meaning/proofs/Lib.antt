@@ -21,3 +21,4 @@ pub mod Gives
 pub mod Lowerable
 pub mod Lists
 pub mod Bounds
+pub mod EvaluatedFunctions

@@ -3,7 +3,7 @@ use Rattle.std.proofs.Common.{◌≡◌, ◌&&◌, List, map, Some, Ok, Bool, tr
 use Rattle.px_types.specs.declared.value_type.ValueType.{ValueType}
 use Rattle.px_expr.specs.Kernel.{Kernel}
 use Rattle.px_expr.specs.Plan.{Catalog}
-use Rattle.px_expr.specs.Tree.{Node, Alias, Column, Literal, Binary, Cast, Gather, Slice, Filter, Ternary, Agg, Function, AnonymousFunction, Len, Aggregate, Min, Max, First, Last, Sum, Count, Tree, tree, Trees, none, more}
+use Rattle.px_expr.specs.Tree.{Node, Alias, Column, Literal, Binary, Cast, Gather, Slice, Filter, Ternary, Agg, Function, OtherFunction, AnonymousFunction, Len, Aggregate, Min, Max, First, Last, Sum, Count, Tree, tree, Trees, none, more}
 use Rattle.px_meaning.specs.Check.{Typed, check, resolve}
 use Rattle.px_meaning.specs.Lowerable.{IsPlanAggregate, IsPlanNode, IsLowerable, AreLowerable, is_plan_aggregate, is_plan_node, is_lowerable, are_lowerable}
 use Rattle.px_meaning.specs.Signatures.{Operand, OfType, Signature, signature}
@@ -78,6 +78,7 @@ is_plan_node-is Filter e = tt
 is_plan_node-is Ternary e = tt
 is_plan_node-is (Agg a) e = is_plan_aggregate-is a e
 is_plan_node-is (Function function) e = tt
+is_plan_node-is (OtherFunction function) e = tt
 is_plan_node-is (AnonymousFunction kernel) e = tt
 is_plan_node-is Len e = tt
 is_plan_node-is _ e = cc
@@ -94,6 +95,7 @@ is_plan_node-of Filter h = refl
 is_plan_node-of Ternary h = refl
 is_plan_node-of (Agg a) h = is_plan_aggregate-of a h
 is_plan_node-of (Function function) h = refl
+is_plan_node-of (OtherFunction function) h = refl
 is_plan_node-of (AnonymousFunction kernel) h = refl
 is_plan_node-of Len h = refl
 is_plan_node-of _ h = absurd h

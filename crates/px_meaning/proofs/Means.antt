@@ -19,9 +19,9 @@ use Rattle.px_types.specs.Schemas.{dtype_at}
 use Rattle.px_types.specs.ValueTypes.{dtype_of, value_type_of}
 use Rattle.px_types.specs.declared.dtype.DataType.{DataType}
 use Rattle.px_types.specs.declared.type_parts.CastOptions.{CastOptions}
-use Rattle.px_types.specs.declared.function.BooleanFunction.TheVariants.{IsNull, IsNotNull, Not}
-use Rattle.px_types.specs.declared.function.FunctionExpr.{FunctionExpr}
-use Rattle.px_types.specs.declared.function.FunctionExpr.TheVariants as function
+use Rattle.px_functions.specs.declared.evaluated.EvaluatedBoolean.TheVariants.{IsNull, IsNotNull, Not}
+use Rattle.px_functions.specs.declared.evaluated.EvaluatedFunction.{EvaluatedFunction}
+use Rattle.px_functions.specs.declared.evaluated.EvaluatedFunction.TheVariants as function
 use Rattle.px_types.specs.declared.operator.Operator.{Operator}
 use Rattle.px_types.specs.declared.value_type.ValueType.{ValueType}
 use Rattle.px_types.specs.declared.value_type.ValueType.TheVariants as value_type
@@ -200,7 +200,7 @@ module _ (c : Catalog) (frame : List Contents) (fits : Fits frame c.schema) wher
       let (m, a, b, f, hm, ha, hb) = three_columns value_type.Boolean k k ks vs (ternary-types c ks k t) h in
       select_rows-typed k m a b v hm ha hb (sym (ap (of_three select_rows) f) ∙ e)
 
-  function-typed : (f : FunctionExpr) → IsTypedNode (Function f)
+  function-typed : (f : EvaluatedFunction) → IsTypedNode (Function f)
   unfolding fused_rows
   function-typed (function.Boolean IsNull) ks k vs v t h e =
       let (j, f, g) = is_null-types c ks k t in

@@ -3,9 +3,9 @@ use Rattle.std.proofs.Common.{◌≡◌, ◌<◌, ◌+◌, ℕ, List, [], ◌∷
 use Rattle.px_base.specs.declared.error.PlanError.{PlanError}
 use Rattle.px_types.specs.Classes.{is_boolean_or_integer, is_integer_value}
 use Rattle.px_semantics.specs.Rows.{Contents}
-use Rattle.px_types.specs.declared.function.BooleanFunction.TheVariants as boolean
-use Rattle.px_types.specs.declared.function.FunctionExpr.{FunctionExpr}
-use Rattle.px_types.specs.declared.function.FunctionExpr.TheVariants as function
+use Rattle.px_functions.specs.declared.evaluated.EvaluatedBoolean.TheVariants as boolean
+use Rattle.px_functions.specs.declared.evaluated.EvaluatedFunction.{EvaluatedFunction}
+use Rattle.px_functions.specs.declared.evaluated.EvaluatedFunction.TheVariants as function
 use Rattle.px_types.specs.declared.function.FusedOperator.{FusedOperator}
 use Rattle.px_types.specs.declared.operator.Operator.{Operator}
 use Rattle.px_types.specs.declared.value_type.ValueType.{ValueType}
@@ -85,7 +85,7 @@ module _ (c : Catalog) where
 
 module _ (kernels : List Kernel) (frame : List Contents) where
   -- a function of one input has the faults of its input
-  pub call-fault : (f : FunctionExpr) (x : Tree) (e : PlanError) → is_joining (Function f) ≡ false → HasFault kernels frame (call f x) e → HasFault kernels frame x e
+  pub call-fault : (f : EvaluatedFunction) (x : Tree) (e : PlanError) → is_joining (Function f) ≡ false → HasFault kernels frame (call f x) e → HasFault kernels frame x e
   call-fault f x e free (own (uneven joins h)) = cc
   call-fault f x e free (of_input (of_first h)) = h
   call-fault f x e free (of_input (of_rest h)) = elim h [ ]

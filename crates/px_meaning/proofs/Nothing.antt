@@ -15,9 +15,9 @@ use Rattle.px_semantics.specs.Rows.{Row, TypedRows, Contents, broadcast_length, 
 use Rattle.px_types.specs.Schemas.{dtype_at}
 use Rattle.px_types.specs.ValueTypes.{value_type_of, dtype_of}
 use Rattle.px_types.specs.declared.dtype.DataType.{DataType}
-use Rattle.px_types.specs.declared.function.BooleanFunction.TheVariants.{IsNull, IsNotNull, Not}
-use Rattle.px_types.specs.declared.function.FunctionExpr.{FunctionExpr}
-use Rattle.px_types.specs.declared.function.FunctionExpr.TheVariants as function
+use Rattle.px_functions.specs.declared.evaluated.EvaluatedBoolean.TheVariants.{IsNull, IsNotNull, Not}
+use Rattle.px_functions.specs.declared.evaluated.EvaluatedFunction.{EvaluatedFunction}
+use Rattle.px_functions.specs.declared.evaluated.EvaluatedFunction.TheVariants as function
 use Rattle.px_types.specs.declared.function.FusedOperator.{FusedOperator}
 use Rattle.px_types.specs.declared.type_parts.CastOptions.{CastOptions}
 use Rattle.px_types.specs.declared.type_parts.CastOptions.TheVariants.{Strict, NonStrict, Overflowing}
@@ -173,7 +173,7 @@ module _ (c : Catalog) (frame : List Contents) (fits : Fits frame c.schema) wher
       let apart = select_rows-none m a b (sym (ap (of_three select_rows) f) ∙ e) in
       uneven-over Ternary vs refl (ap (λ (z : List TypedRows). broadcast_lengths (lengths z)) f ∙ apart)
 
-  explains-function : (f : FunctionExpr) → Explains (Function f)
+  explains-function : (f : EvaluatedFunction) → Explains (Function f)
   explains-function (function.Boolean IsNull) ks k vs t h e =
       let (j, f, g) = is_null-types c ks k t in
       let (a, i, ha) = one_column j ks vs f h in

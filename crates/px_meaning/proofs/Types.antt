@@ -8,8 +8,8 @@ use Rattle.px_types.specs.Classes.{is_boolean_or_integer, is_integer_value, is_u
 use Rattle.px_types.specs.ValueTypes.{value_type_of}
 use Rattle.px_types.specs.declared.dtype.DataType.{DataType}
 use Rattle.px_types.specs.declared.type_parts.CastOptions.{CastOptions}
-use Rattle.px_types.specs.declared.function.BooleanFunction.TheVariants.{IsNull, IsNotNull, Not}
-use Rattle.px_types.specs.declared.function.FunctionExpr.TheVariants as function
+use Rattle.px_functions.specs.declared.evaluated.EvaluatedBoolean.TheVariants.{IsNull, IsNotNull, Not}
+use Rattle.px_functions.specs.declared.evaluated.EvaluatedFunction.TheVariants as function
 use Rattle.px_types.specs.declared.function.FusedOperator.{FusedOperator}
 use Rattle.px_types.specs.declared.operator.Operator.{Operator}
 use Rattle.px_types.specs.declared.value_type.ValueType.{ValueType}

@@ -10,9 +10,9 @@ use Rattle.px_types.specs.Schemas.{dtype_at}
 use Rattle.px_types.specs.contracts.value_type.ValueType.{the_row}
 use Rattle.px_types.specs.declared.dtype.DataType.{DataType}
 use Rattle.px_types.specs.declared.type_parts.CastOptions.TheVariants.{NonStrict}
-use Rattle.px_types.specs.declared.function.BooleanFunction.TheVariants.{IsNull, IsNotNull, Not}
-use Rattle.px_types.specs.declared.function.FunctionExpr.{FunctionExpr}
-use Rattle.px_types.specs.declared.function.FunctionExpr.TheVariants as function
+use Rattle.px_functions.specs.declared.evaluated.EvaluatedBoolean.TheVariants.{IsNull, IsNotNull, Not}
+use Rattle.px_functions.specs.declared.evaluated.EvaluatedFunction.{EvaluatedFunction}
+use Rattle.px_functions.specs.declared.evaluated.EvaluatedFunction.TheVariants as function
 use Rattle.px_types.specs.declared.value_type.ValueType.{ValueType}
 use Rattle.px_types.specs.declared.value_type.ValueType.TheVariants as value_type
 use Rattle.px_expr.specs.Kernel.{Kernel}
@@ -100,7 +100,7 @@ module _ (c : Catalog) where
   pub Has-HasType : (t : Tree) (k : ValueType) → Has c t k → HasType c t k
   Has-HasType t k h = ap (λ (r : Result Found PlanError). then_ r with_default_type) (Has-found t k h)
 
-function-long : (f : FunctionExpr) (os : List Operand) (s : Signature) → function_signature f os ≡ Some s → SameLength s.inputs os
+function-long : (f : EvaluatedFunction) (os : List Operand) (s : Signature) → function_signature f os ≡ Some s → SameLength s.inputs os
 function-long (function.Boolean IsNull) os s e = unary-long boolean_result os s e
 function-long (function.Boolean IsNotNull) os s e = unary-long boolean_result os s e
 function-long (function.Boolean Not) os s e = unary-long number_type os s e

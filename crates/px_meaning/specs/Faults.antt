@@ -6,7 +6,7 @@ use Rattle.px_base.specs.declared.error.PlanError.TheVariants.{ShapeMismatch, In
 use Rattle.px_types.specs.declared.dtype.DataType.{DataType}
 use Rattle.px_types.specs.declared.type_parts.CastOptions.TheVariants.{Strict}
 use Rattle.px_types.specs.declared.value_type.ValueType.{ValueType}
-use Rattle.px_types.specs.declared.function.FunctionExpr.TheVariants as function
+use Rattle.px_functions.specs.declared.evaluated.EvaluatedFunction.TheVariants as function
 use Rattle.px_semantics.specs.Casts.{any_lost, cast_value}
 use Rattle.px_semantics.specs.Rows.{TypedRows, Contents, broadcast_lengths}
 use Rattle.px_types.specs.ValueTypes.{value_type_of}

@@ -1,6 +1,6 @@
 -- The nodes that a checked tree can have, which are those of a plan.
 use Rattle.std.specs.Prelude.{Bool, true, false, ◌&&◌}
-use Rattle.px_expr.specs.Tree.{Node, Alias, Column, Literal, Binary, Cast, Gather, Slice, Filter, Ternary, Agg, Function, AnonymousFunction, Len, Aggregate, Min, Max, First, Last, Sum, Count, Tree, tree, Trees, none, more}
+use Rattle.px_expr.specs.Tree.{Node, Alias, Column, Literal, Binary, Cast, Gather, Slice, Filter, Ternary, Agg, Function, OtherFunction, AnonymousFunction, Len, Aggregate, Min, Max, First, Last, Sum, Count, Tree, tree, Trees, none, more}
 
 -- the aggregates that a plan has
 abbrev pub IsPlanAggregate : Aggregate → Type 0
@@ -25,6 +25,7 @@ IsPlanNode Filter = Unit {0}
 IsPlanNode Ternary = Unit {0}
 IsPlanNode (Agg a) = IsPlanAggregate a
 IsPlanNode (Function function) = Unit {0}
+IsPlanNode (OtherFunction function) = Unit {0}
 IsPlanNode (AnonymousFunction kernel) = Unit {0}
 IsPlanNode Len = Unit {0}
 IsPlanNode _ = ⊥
@@ -60,6 +61,7 @@ is_plan_node Filter = true
 is_plan_node Ternary = true
 is_plan_node (Agg a) = is_plan_aggregate a
 is_plan_node (Function function) = true
+is_plan_node (OtherFunction function) = true
 is_plan_node (AnonymousFunction kernel) = true
 is_plan_node Len = true
 is_plan_node _ = false

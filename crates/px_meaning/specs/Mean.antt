@@ -1,10 +1,10 @@
 -- What a tree means on a frame: rows with their type, or nothing, and a name. The rows of a node are a
 -- function of the node and of its inputs' rows alone, whatever their names.
 use Rattle.std.specs.Prelude.{◌≡◌, ℕ, List, [], ◌∷◌, map, length, Option, Some, None, option_map, option_and_then}
-use Rattle.px_types.specs.declared.function.BooleanFunction.{BooleanFunction}
-use Rattle.px_types.specs.declared.function.BooleanFunction.TheVariants.{IsNull, IsNotNull, Not}
-use Rattle.px_types.specs.declared.function.FunctionExpr.{FunctionExpr}
-use Rattle.px_types.specs.declared.function.FunctionExpr.TheVariants as function
+use Rattle.px_functions.specs.declared.evaluated.EvaluatedBoolean.{EvaluatedBoolean}
+use Rattle.px_functions.specs.declared.evaluated.EvaluatedBoolean.TheVariants.{IsNull, IsNotNull, Not}
+use Rattle.px_functions.specs.declared.evaluated.EvaluatedFunction.{EvaluatedFunction}
+use Rattle.px_functions.specs.declared.evaluated.EvaluatedFunction.TheVariants as function
 use Rattle.px_types.specs.declared.operator.Operator.{Operator}
 use Rattle.px_semantics.specs.Arithmetic.{arith_rows, negate_rows}
 use Rattle.px_semantics.specs.Casts.{cast_to}
@@ -34,7 +34,7 @@ abbrev pub binary_rows : Operator → List TypedRows → Option TypedRows
 binary_rows o (a ∷ b ∷ []) = group_rows (group_of o) o a b
 binary_rows o _ = None
 
-abbrev pub boolean_rows : BooleanFunction → TypedRows → TypedRows
+abbrev pub boolean_rows : EvaluatedBoolean → TypedRows → TypedRows
 boolean_rows IsNull a = tested_rows null_row a
 boolean_rows IsNotNull a = tested_rows value_row a
 boolean_rows Not a = inverse_rows a
@@ -48,7 +48,7 @@ abbrev pub of_three : (TypedRows → TypedRows → TypedRows → Option TypedRow
 of_three f (a ∷ b ∷ c ∷ []) = f a b c
 of_three f _ = None
 
-abbrev pub function_rows : FunctionExpr → List TypedRows → Option TypedRows
+abbrev pub function_rows : EvaluatedFunction → List TypedRows → Option TypedRows
 function_rows (function.Boolean f) inputs = of_one (λ a. Some (boolean_rows f a)) inputs
 function_rows function.Negate inputs = of_one (λ a. Some (negate_rows a)) inputs
 function_rows (function.Fused f) inputs = of_three (fused_rows f) inputs

@@ -3,9 +3,9 @@ use Rattle.std.specs.Prelude.{◌≡◌, ◌≢◌, ℤ, pos, neg_ℤ, Bool, tru
 use Rattle.px_semantics.specs.Arithmetic.{arith_row}
 use Rattle.px_semantics.specs.Comparisons.{compare_row, IsComparison}
 use Rattle.px_semantics.specs.Logic.{boolean_logic_row}
-use Rattle.px_types.specs.declared.function.BooleanFunction.TheVariants as boolean
-use Rattle.px_types.specs.declared.function.FunctionExpr.{FunctionExpr}
-use Rattle.px_types.specs.declared.function.FunctionExpr.TheVariants as function
+use Rattle.px_functions.specs.declared.evaluated.EvaluatedBoolean.TheVariants as boolean
+use Rattle.px_functions.specs.declared.evaluated.EvaluatedFunction.{EvaluatedFunction}
+use Rattle.px_functions.specs.declared.evaluated.EvaluatedFunction.TheVariants as function
 use Rattle.px_types.specs.declared.function.FusedOperator.{FusedOperator}
 use Rattle.px_types.specs.declared.function.FusedOperator.TheVariants.{MultiplyAdd, SubMultiply, MultiplySub}
 use Rattle.px_types.specs.declared.operator.Operator.{Operator}
@@ -30,7 +30,7 @@ use Rattle.px_expr.specs.Plan.{Catalog}
 abbrev pub binary : Operator → Tree → Tree → Tree
 binary o a b = over (Binary o) (a ∷ b ∷ [])
 
-abbrev pub call : FunctionExpr → Tree → Tree
+abbrev pub call : EvaluatedFunction → Tree → Tree
 call f t = over (Function f) (t ∷ [])
 
 abbrev pub not_tree : Tree → Tree

@@ -5,10 +5,10 @@ use Rattle.px_base.specs.Exact.{same}
 use Rattle.px_types.specs.Classes.{is_integer_value, is_unsigned_value, is_boolean_or_integer}
 use Rattle.px_types.specs.ValueTypes.{value_type_of, common, holds, default_type}
 use Rattle.px_types.specs.contracts.value_type.ValueType.{the_row}
-use Rattle.px_types.specs.declared.function.BooleanFunction.{BooleanFunction}
-use Rattle.px_types.specs.declared.function.BooleanFunction.TheVariants.{IsNull, IsNotNull, Not}
-use Rattle.px_types.specs.declared.function.FunctionExpr.{FunctionExpr}
-use Rattle.px_types.specs.declared.function.FunctionExpr.TheVariants as function
+use Rattle.px_functions.specs.declared.evaluated.EvaluatedBoolean.{EvaluatedBoolean}
+use Rattle.px_functions.specs.declared.evaluated.EvaluatedBoolean.TheVariants.{IsNull, IsNotNull, Not}
+use Rattle.px_functions.specs.declared.evaluated.EvaluatedFunction.{EvaluatedFunction}
+use Rattle.px_functions.specs.declared.evaluated.EvaluatedFunction.TheVariants as function
 use Rattle.px_types.specs.declared.operator.Operator.{Operator}
 use Rattle.px_types.specs.declared.operator.Operator.TheVariants as op
 use Rattle.px_types.specs.declared.value_type.ValueType.{ValueType}
@@ -186,12 +186,12 @@ abbrev pub ternary_signature : List Operand → Option Signature
 ternary_signature (p ∷ os) = if is_mask (own_type p) then option_map masked (uniting 2 any_type os) else None
 ternary_signature [] = None
 
-abbrev pub boolean_signature : BooleanFunction → List Operand → Option Signature
+abbrev pub boolean_signature : EvaluatedBoolean → List Operand → Option Signature
 boolean_signature IsNull os = unary boolean_result os
 boolean_signature IsNotNull os = unary boolean_result os
 boolean_signature Not os = unary number_type os
 
-abbrev pub function_signature : FunctionExpr → List Operand → Option Signature
+abbrev pub function_signature : EvaluatedFunction → List Operand → Option Signature
 function_signature (function.Boolean f) os = boolean_signature f os
 function_signature function.Negate os = unary signed_type os
 function_signature (function.Fused f) os = uniting 3 integer_type os
@@ -204,5 +204,6 @@ signature kernels (Binary o) os = uniting 2 (group_type (group_of o)) os
 signature kernels (Cast dtype options) os = unary (cast_type (value_type_of dtype)) os
 signature kernels Ternary os = ternary_signature os
 signature kernels (Function f) os = function_signature f os
--- core language only: no gathers, slices, filters, aggregates, kernels or numbers of rows
+-- core language only: no gathers, slices, filters, aggregates, kernels or numbers of rows; and never a function
+-- that is not evaluated
 signature kernels _ os = None

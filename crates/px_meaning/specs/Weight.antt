@@ -1,8 +1,8 @@
 -- Weights of trees, which every rewrite lowers, and what bounds them: nodes and `not`s.
 use Rattle.std.specs.Prelude.{ℕ, ◌+◌, List, [], ◌∷◌, max, sum}
-use Rattle.px_types.specs.declared.function.BooleanFunction.TheVariants.{Not}
-use Rattle.px_types.specs.declared.function.FunctionExpr.{FunctionExpr}
-use Rattle.px_types.specs.declared.function.FunctionExpr.TheVariants as function
+use Rattle.px_functions.specs.declared.evaluated.EvaluatedBoolean.TheVariants.{Not}
+use Rattle.px_functions.specs.declared.evaluated.EvaluatedFunction.{EvaluatedFunction}
+use Rattle.px_functions.specs.declared.evaluated.EvaluatedFunction.TheVariants as function
 use Rattle.px_expr.specs.Tree.{Node, Binary, Function, Tree, Trees, fold_tree, fold_trees}
 
 -- what a node does with the weights of its inputs
@@ -10,7 +10,7 @@ pub data Load : Type 0 where
   Doubles : Load
   Adds : ℕ → Load
 
-abbrev pub function_load : FunctionExpr → Load
+abbrev pub function_load : EvaluatedFunction → Load
 function_load (function.Boolean Not) = Doubles
 function_load _ = Adds 1
 

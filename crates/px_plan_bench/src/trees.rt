@@ -1,9 +1,8 @@
 //! The expressions that the work is done on.
 
 use px_expr::{Expr, ExprList, LiteralValue, binary_expr};
-use px_types::{
-    BooleanFunction, FunctionExpr, FunctionOptions, List, Operator, PlanError, SmallStr,
-};
+use px_functions::{BooleanFunction, FunctionExpr};
+use px_types::{FunctionOptions, List, Operator, PlanError, SmallStr};
 use std::alloc::Global;
 
 /// The leaves of a balanced tree.

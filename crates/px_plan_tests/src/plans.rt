@@ -12,7 +12,7 @@ use px_plan::{
     SimplifyBooleanRule, lower, optimize, optimize_loop,
 };
 use px_texts::{
-    fields_of, function_name, read_text, write_cast, write_literal, write_operator, write_word,
+    fields_of, read_text, write_cast, write_function, write_literal, write_operator, write_word,
 };
 use px_types::{Operator, PlanError, Schema, Steps, ValueType};
 use std::alloc::Global;
@@ -44,7 +44,7 @@ fn write_own(alloc: Global, text: &mut String, expr: &AExpr) -> Result<(), PlanE
         AExpr::Literal(value) => write_literal(alloc, text, value),
         AExpr::BinaryExpr { op, .. } => write_operator(alloc, text, *op),
         AExpr::Cast { dtype, options, .. } => write_cast(alloc, text, dtype, *options),
-        AExpr::Function { function, .. } => write_word(text, function_name(function)),
+        AExpr::Function { function, .. } => write_function(alloc, text, function),
         _ => write_word(text, "other"),
     }
 }

@@ -8,7 +8,7 @@ use Rattle.px_semantics.specs.Arithmetic.{arith_row, lift_nonzero, floor_quotien
 use Rattle.px_semantics.specs.Comparisons.{IsComparison}
 use Rattle.px_types.specs.Integers.{into}
 use Rattle.px_semantics.specs.Rows.{Datum, BooleanValue, IntegerValue, Row}
-use Rattle.px_types.specs.declared.function.FunctionExpr.TheVariants as function
+use Rattle.px_functions.specs.declared.evaluated.EvaluatedFunction.TheVariants as function
 use Rattle.px_types.specs.declared.operator.Operator.{Operator}
 use Rattle.px_types.specs.declared.operator.Operator.TheVariants as op
 use Rattle.px_types.specs.declared.value_type.ValueType.{ValueType}

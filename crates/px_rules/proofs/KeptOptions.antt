@@ -4,8 +4,8 @@ use Rattle.std.specs.List.{slice_get}
 use Rattle.std.proofs.lemmas.Bool.{cases_eq}
 use Rattle.std.proofs.lemmas.Option.{same_Some, slice_get_within}
 use Rattle.px_expr.specs.declared.literal.LiteralValue.{LiteralValue}
-use Rattle.px_types.specs.declared.function.BooleanFunction.{BooleanFunction}
-use Rattle.px_types.specs.declared.function.BooleanFunction.TheVariants as boolean
+use Rattle.px_functions.specs.declared.evaluated.EvaluatedBoolean.{EvaluatedBoolean}
+use Rattle.px_functions.specs.declared.evaluated.EvaluatedBoolean.TheVariants as boolean
 use Rattle.px_types.specs.declared.operator.Operator.{Operator}
 use Rattle.px_arena.specs.declared.node.AExpr.{AExpr}
 use Rattle.px_arena.specs.declared.node.AExpr.TheVariants as ir
@@ -83,9 +83,9 @@ keeps_call items n x y e k l at is at2 is2 negated = go l.function refl negated
     made : (a : AExpr) → HasRightOptions items n a → Some a ≡ Some e → KeepsOptions items items n (Some e)
     made a right h = (inr (subst (λ (z : AExpr). HasRightOptions items n z) (same_Some a e h) right), added_none items n)
 
-    go : (f : BooleanFunction) → l.function ≡ f → negated_call items f l ≡ Some e → KeepsOptions items items n (Some e)
+    go : (f : EvaluatedBoolean) → l.function ≡ f → negated_call items f l ≡ Some e → KeepsOptions items items n (Some e)
     go boolean.Not fun h =
-        let inner : not_of y ≡ Some l = ap option_not is2 ∙ ap (λ (f : BooleanFunction). if_not f l) fun in
+        let inner : not_of y ≡ Some l = ap option_not is2 ∙ ap (λ (f : EvaluatedBoolean). if_not f l) fun in
         (inl (l.input.0, inr (k, l, (x, at, is), (y, at2, inner), refl), h), added_none items n)
     go boolean.IsNull fun h = made (boolean_call boolean.IsNotNull l.input l.options) (k, l, (x, at, is), (y, at2, is2), refl) h
     go boolean.IsNotNull fun h = made (boolean_call boolean.IsNull l.input l.options) (k, l, (x, at, is), (y, at2, is2), refl) h

@@ -2,9 +2,9 @@
 use Rattle.std.proofs.Common.{◌≡◌, ◌≢◌, ℕ, ◌<◌, List, [], ◌∷◌, ◌++◌, length, Bool, not, Some, None, refl, sym, ◌∙◌, ap, subst, arith, length-append}
 use Rattle.std.specs.List.{slice_get}
 use Rattle.std.proofs.lemmas.Option.{same_Some}
-use Rattle.px_types.specs.declared.function.BooleanFunction.{BooleanFunction}
-use Rattle.px_types.specs.declared.function.BooleanFunction.TheVariants as boolean
-use Rattle.px_types.specs.declared.function.FunctionExpr.TheVariants as function
+use Rattle.px_functions.specs.declared.evaluated.EvaluatedBoolean.{EvaluatedBoolean}
+use Rattle.px_functions.specs.declared.evaluated.EvaluatedBoolean.TheVariants as boolean
+use Rattle.px_functions.specs.declared.evaluated.EvaluatedFunction.TheVariants as function
 use Rattle.px_types.specs.declared.operator.Operator.{Operator}
 use Rattle.px_types.specs.declared.operator.Operator.TheVariants as op
 use Rattle.px_types.specs.declared.options.FunctionOptions.{FunctionOptions}
@@ -39,7 +39,7 @@ use Rattle.px_rules.proofs.Shows.{reads_binary, shows_binary, reads_call, shows_
 -- what stands under the `not` of a left side
 data Under : Tree → Type 0 where
   of_binary : {o : Operator} {a b : Tree} (w : NegatedOperator) → inward o ≡ Some w → Under (binary o a b)
-  of_call : {f : BooleanFunction} {u : Tree} → Under (call (function.Boolean f) u)
+  of_call : {f : EvaluatedBoolean} {u : Tree} → Under (call (function.Boolean f) u)
   of_boolean : {b : Bool} → Under (truth b)
 
 conjunction_inward : (o : Operator) → IsConjunction o → inward o ≡ Some (Dual op.Or)
@@ -224,7 +224,7 @@ module _ (c : Catalog) (context : Context) where
   offer_copy items n x y e k l ok at is at2 is2 fun at3 =
       let a = arm items n x k ok at is in
       let r = reads_call items k.input.0 y l a.u a.of_input at2 is2 in
-      let same : a.t ≡ not_tree (not_tree r.under) = a.whole ∙ ap not_tree (r.whole ∙ ap (λ (f : BooleanFunction). call (function.Boolean f) r.under) fun) in (
+      let same : a.t ≡ not_tree (not_tree r.under) = a.whole ∙ ap not_tree (r.whole ∙ ap (λ (f : EvaluatedBoolean). call (function.Boolean f) r.under) fun) in (
         a.t,
         r.under,
         a.denotes,
@@ -234,13 +234,13 @@ module _ (c : Catalog) (context : Context) where
 
   -- a null test for the other
   offer_test :
-      (items : List AExpr) (n : ℕ) (x y e : AExpr) (k l : BooleanCall) (f g : BooleanFunction) → IsCheckedAt c items n → slice_get items n ≡ Some x → not_of x ≡ Some k →
+      (items : List AExpr) (n : ℕ) (x y e : AExpr) (k l : BooleanCall) (f g : EvaluatedBoolean) → IsCheckedAt c items n → slice_get items n ≡ Some x → not_of x ≡ Some k →
       slice_get items k.input.0 ≡ Some y → boolean_of y ≡ Some l → l.function ≡ f → e ≡ boolean_call g l.input l.options →
       ((v : Tree) → RewriteIn pushed_negations c context (not_tree (call (function.Boolean f) v)) (call (function.Boolean g) v)) → Offers NotRewrite items items n (Some e)
   offer_test items n x y e k l f g ok at is at2 is2 fun made rewritten =
       let a = arm items n x k ok at is in
       let r = reads_call items k.input.0 y l a.u a.of_input at2 is2 in
-      let same : a.t ≡ not_tree (call (function.Boolean f) r.under) = a.whole ∙ ap not_tree (r.whole ∙ ap (λ (f : BooleanFunction). call (function.Boolean f) r.under) fun) in
+      let same : a.t ≡ not_tree (call (function.Boolean f) r.under) = a.whole ∙ ap not_tree (r.whole ∙ ap (λ (f : EvaluatedBoolean). call (function.Boolean f) r.under) fun) in
       let answer : Offers NotRewrite items items n (Some (boolean_call g l.input l.options)) = (
         a.t,
         call (function.Boolean g) r.under,
@@ -266,7 +266,7 @@ module _ (c : Catalog) (context : Context) where
       slice_get items k.input.0 ≡ Some y → boolean_of y ≡ Some l → negated_call items l.function l ≡ Some e → Offers NotRewrite items items n (Some e)
   offer_call items n x y e k l ok at is at2 is2 negated = go l.function refl negated
     where
-      go : (f : BooleanFunction) → l.function ≡ f → negated_call items f l ≡ Some e → Offers NotRewrite items items n (Some e)
+      go : (f : EvaluatedBoolean) → l.function ≡ f → negated_call items f l ≡ Some e → Offers NotRewrite items items n (Some e)
       go boolean.Not fun h = offer_copy items n x y e k l ok at is at2 is2 fun h
       go boolean.IsNull fun h = offer_test items n x y e k l boolean.IsNull boolean.IsNotNull ok at is at2 is2 fun (sym (same_Some (boolean_call boolean.IsNotNull l.input l.options) e h)) null_rewrite
       go boolean.IsNotNull fun h = offer_test items n x y e k l boolean.IsNotNull boolean.IsNull ok at is at2 is2 fun (sym (same_Some (boolean_call boolean.IsNull l.input l.options) e h)) not_null_rewrite

@@ -2,14 +2,17 @@
 use Rattle.std.proofs.Common.{◌≡◌, ℕ, List, [], ◌∷◌, Bool, Option, Some, None, refl, sym, ◌∙◌, ap, subst}
 use Rattle.std.specs.List.{slice_get}
 use Rattle.std.proofs.lemmas.Option.{same_Some}
-use Rattle.px_types.specs.declared.function.BooleanFunction.{BooleanFunction}
-use Rattle.px_types.specs.declared.function.BooleanFunction.TheVariants as boolean
-use Rattle.px_types.specs.declared.function.FunctionExpr.TheVariants as function
+use Rattle.px_functions.specs.declared.evaluated.EvaluatedBoolean.{EvaluatedBoolean}
+use Rattle.px_functions.specs.declared.evaluated.EvaluatedBoolean.TheVariants as boolean
+use Rattle.px_functions.specs.declared.evaluated.EvaluatedFunction.{EvaluatedFunction}
+use Rattle.px_functions.specs.declared.evaluated.EvaluatedFunction.TheVariants as function
+use Rattle.px_functions.specs.declared.function.FunctionExpr.{FunctionExpr}
+use Rattle.px_functions.specs.Evaluated.{evaluated}
 use Rattle.px_types.specs.declared.operator.Operator.{Operator}
 use Rattle.px_types.specs.declared.options.FunctionOptions.{FunctionOptions}
 use Rattle.px_expr.specs.declared.literal.LiteralValue.{LiteralValue}
 use Rattle.px_expr.specs.declared.literal.LiteralValue.TheVariants as lit
-use Rattle.px_expr.specs.Tree.{Node as Root, Function, Binary, Literal, Tree, tree, Trees, none, more, over}
+use Rattle.px_expr.specs.Tree.{Node as Root, Function, node_for, function_node, Binary, Literal, Tree, tree, Trees, none, more, over}
 use Rattle.px_meaning.specs.Check.{literal}
 use Rattle.px_meaning.specs.Rewrites.{binary, call, not_tree, truth}
 use Rattle.px_arena.specs.declared.node.AExpr.{AExpr}
@@ -20,7 +23,7 @@ use Rattle.px_arena.specs.Denotes.{root_of, inputs_of, expr_places, Denotes, Den
 use Rattle.px_arena.proofs.Reading.{Holds, holds}
 use Rattle.px_rules.specs.declared.views.BinaryParts.{BinaryParts}
 use Rattle.px_rules.specs.declared.views.BooleanCall.{BooleanCall}
-use Rattle.px_rules.specs.Views.{binary_of, boolean_of, call_over, if_not, option_not, not_of, boolean_literal_of, literal_of, only_place, negate_of}
+use Rattle.px_rules.specs.Views.{binary_of, boolean_of, boolean_over, call_over, if_not, option_not, not_of, boolean_literal_of, literal_of, only_place, negated_place, negate_of}
 
 -- a place that holds a node of one input
 pub reads_one :
@@ -118,11 +121,19 @@ shows_binary items n x o a b (y, at', root, ins) at =
 
 -- functions over one input
 
+-- an evaluated function's node tells the function
+node-evaluated : (g : FunctionExpr) (f : EvaluatedFunction) → function_node g ≡ Function f → evaluated g ≡ Some f
+node-evaluated g f e = go (evaluated g) e
+  where
+    go : (o : Option EvaluatedFunction) → node_for g o ≡ Function f → o ≡ Some f
+    go (Some h) e = let same : h ≡ f = cc in ap Some same
+    go None e = cc
+
 record IsCall (x : AExpr) (k : BooleanCall) : Type 0 where
   root : root_of x ≡ Function (function.Boolean k.function)
   inputs : inputs_of x ≡ k.input.0 ∷ []
 
-call_places : (f : BooleanFunction) (own : FunctionOptions) (es : List ExprIR) (k : BooleanCall) → call_over f own es ≡ Some k → (f ≡ k.function) × (expr_places es ≡ k.input.0 ∷ [])
+call_places : (f : EvaluatedBoolean) (own : FunctionOptions) (es : List ExprIR) (k : BooleanCall) → call_over f own es ≡ Some k → (f ≡ k.function) × (expr_places es ≡ k.input.0 ∷ [])
 call_places f own [] k e = cc
 call_places f own (p ∷ []) k e =
     let same = same_Some (record { function = f; input = p.0; options = own }) k e in
@@ -130,9 +141,13 @@ call_places f own (p ∷ []) k e =
 call_places f own (p ∷ (q ∷ es)) k e = cc
 
 call_is : (x : AExpr) (k : BooleanCall) → boolean_of x ≡ Some k → IsCall x k
-call_is (ir.Function input (function.Boolean f) own) k e =
-    let (a, b) = call_places f own input.entries k e in
-    record { root = ap (λ (g : BooleanFunction). Function (function.Boolean g)) a; inputs = b }
+call_is (ir.Function input g own) k e = go (evaluated g) refl e
+  where
+    go : (o : Option EvaluatedFunction) → evaluated g ≡ o → boolean_over o own input.entries ≡ Some k → IsCall (ir.Function input g own) k
+    go (Some (function.Boolean f)) is h =
+        let (a, b) = call_places f own input.entries k h in
+        record { root = ap (node_for g) is ∙ ap (λ (f : EvaluatedBoolean). Function (function.Boolean f)) a; inputs = b }
+    go _ is h = cc
 call_is _ k e = cc
 
 pub record ReadsCall (items : List AExpr) (x : AExpr) (k : BooleanCall) (t : Tree) : Type 0 where
@@ -149,18 +164,21 @@ reads_call items n x k t d at e =
     record { under = u; whole = whole; denotes = du; is_input = subst (λ (ns : List ℕ). IsIn k.input.0 ns) (sym is.inputs) first }
 
 is_call :
-    (items : List AExpr) (x : AExpr) (f : BooleanFunction) (u : Tree) → root_of x ≡ Function (function.Boolean f) → DenoteAll items (inputs_of x) (more u none) →
+    (items : List AExpr) (x : AExpr) (f : EvaluatedBoolean) (u : Tree) → root_of x ≡ Function (function.Boolean f) → DenoteAll items (inputs_of x) (more u none) →
     (k : BooleanCall) × (boolean_of x ≡ Some k) × (k.function ≡ f) × Denotes items k.input.0 u
-is_call items (ir.Function input (function.Boolean g) own) f u r ds = let same : g ≡ f = cc in go same input.entries ds
+is_call items (ir.Function input g own) f u r ds = go input.entries ds
   where
-    go : g ≡ f → (es : List ExprIR) → DenoteAll items (expr_places es) (more u none) → (k : BooleanCall) × (call_over g own es ≡ Some k) × (k.function ≡ f) × Denotes items k.input.0 u
-    go same [] ds = absurd ds
-    go same (p ∷ []) (d, ds) = (record { function = g; input = p.0; options = own }, refl, same, d)
-    go same (p ∷ (q ∷ es)) (d, ds) = absurd ds
+    is : evaluated g ≡ Some (function.Boolean f)
+    is = node-evaluated g (function.Boolean f) r
+
+    go : (es : List ExprIR) → DenoteAll items (expr_places es) (more u none) → (k : BooleanCall) × (boolean_over (evaluated g) own es ≡ Some k) × (k.function ≡ f) × Denotes items k.input.0 u
+    go [] ds = absurd ds
+    go (p ∷ []) (d, ds) = (record { function = f; input = p.0; options = own }, ap (λ (o : Option EvaluatedFunction). boolean_over o own (p ∷ [])) is, refl, d)
+    go (p ∷ (q ∷ es)) (d, ds) = absurd ds
 is_call items _ f u r ds = cc
 
 pub shows_call :
-    (items : List AExpr) (n : ℕ) (x : AExpr) (f : BooleanFunction) (u : Tree) → Denotes items n (call (function.Boolean f) u) → slice_get items n ≡ Some x →
+    (items : List AExpr) (n : ℕ) (x : AExpr) (f : EvaluatedBoolean) (u : Tree) → Denotes items n (call (function.Boolean f) u) → slice_get items n ≡ Some x →
     (k : BooleanCall) × (boolean_of x ≡ Some k) × (k.function ≡ f) × Denotes items k.input.0 u
 shows_call items n x f u (y, at', root, ins) at =
     let e : y ≡ x = same_Some y x (sym at' ∙ at) in
@@ -168,7 +186,7 @@ shows_call items n x f u (y, at', root, ins) at =
 
 -- a `not`
 
-kept_not : (f : BooleanFunction) (k l : BooleanCall) → if_not f k ≡ Some l → (k ≡ l) × (f ≡ boolean.Not)
+kept_not : (f : EvaluatedBoolean) (k l : BooleanCall) → if_not f k ≡ Some l → (k ≡ l) × (f ≡ boolean.Not)
 kept_not boolean.Not k l e = (same_Some k l e, refl)
 kept_not _ k l e = cc
 
@@ -185,14 +203,14 @@ pub reads_negated :
 reads_negated items n x k t d at e =
     let (is, fun) = negated_is x k e in
     let r = reads_call items n x k t d at is in
-    (r.under, r.whole ∙ ap (λ (f : BooleanFunction). call (function.Boolean f) r.under) fun, r.denotes, r.is_input)
+    (r.under, r.whole ∙ ap (λ (f : EvaluatedBoolean). call (function.Boolean f) r.under) fun, r.denotes, r.is_input)
 
 pub shows_negated :
     (items : List AExpr) (n : ℕ) (x : AExpr) (u : Tree) → Denotes items n (not_tree u) → slice_get items n ≡ Some x →
     (k : BooleanCall) × (not_of x ≡ Some k) × Denotes items k.input.0 u
 shows_negated items n x u d at =
     let (k, is, fun, du) = shows_call items n x boolean.Not u d at in
-    (k, ap option_not is ∙ ap (λ (f : BooleanFunction). if_not f k) fun, du)
+    (k, ap option_not is ∙ ap (λ (f : EvaluatedBoolean). if_not f k) fun, du)
 
 -- literals
 
@@ -250,7 +268,11 @@ only_places (p ∷ []) a e = ap (λ (n : Node). n.0 ∷ []) (same_Some p.0 a e)
 only_places (p ∷ (q ∷ es)) a e = cc
 
 negate_is : (x : AExpr) (a : Node) → negate_of x ≡ Some a → IsNegate x a
-negate_is (ir.Function input function.Negate own) a e = record { root = refl; inputs = only_places input.entries a e }
+negate_is (ir.Function input g own) a e = go (evaluated g) refl e
+  where
+    go : (o : Option EvaluatedFunction) → evaluated g ≡ o → negated_place o input.entries ≡ Some a → IsNegate (ir.Function input g own) a
+    go (Some function.Negate) is h = record { root = ap (node_for g) is; inputs = only_places input.entries a h }
+    go _ is h = cc
 negate_is _ a e = cc
 
 pub reads_negate :
@@ -261,11 +283,14 @@ reads_negate items n x a t d at e = let is = negate_is x a e in reads_one items 
 is_negate :
     (items : List AExpr) (x : AExpr) (u : Tree) → root_of x ≡ Function function.Negate → DenoteAll items (inputs_of x) (more u none) →
     (a : Node) × (negate_of x ≡ Some a) × Denotes items a.0 u
-is_negate items (ir.Function input function.Negate own) u r ds = go input.entries ds
+is_negate items (ir.Function input g own) u r ds = go input.entries ds
   where
-    go : (es : List ExprIR) → DenoteAll items (expr_places es) (more u none) → (a : Node) × (only_place es ≡ Some a) × Denotes items a.0 u
+    is : evaluated g ≡ Some function.Negate
+    is = node-evaluated g function.Negate r
+
+    go : (es : List ExprIR) → DenoteAll items (expr_places es) (more u none) → (a : Node) × (negated_place (evaluated g) es ≡ Some a) × Denotes items a.0 u
     go [] ds = absurd ds
-    go (p ∷ []) (d, ds) = (p.0, refl, d)
+    go (p ∷ []) (d, ds) = (p.0, ap (λ (o : Option EvaluatedFunction). negated_place o (p ∷ [])) is, d)
     go (p ∷ (q ∷ es)) (d, ds) = absurd ds
 is_negate items _ u r ds = cc
 

@@ -1,6 +1,7 @@
 -- Which products fuse into a sum or a difference, and what a tree without literals is.
 use Rattle.std.specs.Prelude.{Bool, true, false, not, ◌&&◌, Option, Some, None, List, [], ◌∷◌, ℕ, slice_get, codes}
-use Rattle.px_types.specs.declared.function.FunctionExpr.TheVariants as function
+use Rattle.px_functions.specs.declared.evaluated.EvaluatedFunction.TheVariants as function
+use Rattle.px_functions.specs.Evaluated.{of_evaluated}
 use Rattle.px_types.specs.declared.function.FusedOperator.TheVariants.{MultiplyAdd, SubMultiply, MultiplySub}
 use Rattle.px_types.specs.declared.operator.Operator.{Operator}
 use Rattle.px_types.specs.declared.operator.Operator.TheVariants as op
@@ -53,7 +54,7 @@ fused_options = record { collect_groups = ElementWise; flags = record { 0 = 1 };
 
 -- the fused node
 abbrev pub fused_call : Fusion → AExpr
-fused_call f = ir.Function (record { entries = record { 0 = f.first } ∷ record { 0 = f.second } ∷ record { 0 = f.third } ∷ [] }) (function.Fused f.operator) fused_options
+fused_call f = ir.Function (record { entries = record { 0 = f.first } ∷ record { 0 = f.second } ∷ record { 0 = f.third } ∷ [] }) (of_evaluated (function.Fused f.operator)) fused_options
 
 -- the place whose name a node takes, and the name of one that takes none
 abbrev pub name_input : AExpr → Option ℕ

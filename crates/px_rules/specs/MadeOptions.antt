@@ -1,8 +1,9 @@
 -- The options of what a rule makes.
 use Rattle.std.specs.Prelude.{◌≡◌, ◌≤◌, ◌⊎◌, ℕ, List, length, Option, Some, None, slice_get}
-use Rattle.px_types.specs.declared.function.BooleanFunction.TheVariants as boolean
-use Rattle.px_types.specs.declared.function.FunctionExpr.{FunctionExpr}
-use Rattle.px_types.specs.declared.function.FunctionExpr.TheVariants as function
+use Rattle.px_functions.specs.declared.evaluated.EvaluatedBoolean.TheVariants as boolean
+use Rattle.px_functions.specs.declared.evaluated.EvaluatedFunction.{EvaluatedFunction}
+use Rattle.px_functions.specs.declared.evaluated.EvaluatedFunction.TheVariants as function
+use Rattle.px_functions.specs.Evaluated.{evaluated}
 use Rattle.px_types.specs.declared.options.FunctionOptions.{FunctionOptions}
 use Rattle.px_arena.specs.declared.node.AExpr.{AExpr}
 use Rattle.px_arena.specs.declared.node.AExpr.TheVariants as ir
@@ -25,16 +26,16 @@ HoldsNot items n call = (x : AExpr) × (slice_get items n ≡ Some x) × (not_of
 
 -- the options of a function that a rule makes for the place n: a `not` has those of the `not` there, a null test
 -- those of the function that stands under this `not`, and a fused function `fused_options`
-abbrev pub HasOptions : List AExpr → ℕ → FunctionExpr → FunctionOptions → Type 0
-HasOptions items n (function.Boolean boolean.Not) options = (outer : BooleanCall) × HoldsNot items n outer × (options ≡ outer.options)
-HasOptions items n (function.Boolean test) options =
+abbrev pub HasOptions : List AExpr → ℕ → Option EvaluatedFunction → FunctionOptions → Type 0
+HasOptions items n (Some (function.Boolean boolean.Not)) options = (outer : BooleanCall) × HoldsNot items n outer × (options ≡ outer.options)
+HasOptions items n (Some (function.Boolean test)) options =
     (outer : BooleanCall) × (inner : BooleanCall) × HoldsNot items n outer × HoldsCall items outer.input.0 inner × (options ≡ inner.options)
-HasOptions items n (function.Fused f) options = options ≡ fused_options
+HasOptions items n (Some (function.Fused f)) options = options ≡ fused_options
 HasOptions items n _ options = ⊥
 
 -- a rule makes no other function than these
 abbrev pub HasRightOptions : List AExpr → ℕ → AExpr → Type 0
-HasRightOptions items n (ir.Function input f options) = HasOptions items n f options
+HasRightOptions items n (ir.Function input f options) = HasOptions items n (evaluated f) options
 HasRightOptions items n (ir.AnonymousFunction input kernel options) = ⊥
 HasRightOptions items n _ = Unit {0}
 

@@ -1,8 +1,9 @@
 -- How a `not` goes into its input.
 use Rattle.std.specs.Prelude.{Option, Some, None, List, [], ◌∷◌, slice_get}
-use Rattle.px_types.specs.declared.function.BooleanFunction.{BooleanFunction}
-use Rattle.px_types.specs.declared.function.BooleanFunction.TheVariants as boolean
-use Rattle.px_types.specs.declared.function.FunctionExpr.TheVariants as function
+use Rattle.px_functions.specs.declared.evaluated.EvaluatedBoolean.{EvaluatedBoolean}
+use Rattle.px_functions.specs.declared.evaluated.EvaluatedBoolean.TheVariants as boolean
+use Rattle.px_functions.specs.declared.evaluated.EvaluatedFunction.TheVariants as function
+use Rattle.px_functions.specs.Evaluated.{of_evaluated}
 use Rattle.px_types.specs.declared.operator.Operator.{Operator}
 use Rattle.px_types.specs.declared.operator.Operator.TheVariants as op
 use Rattle.px_types.specs.declared.options.FunctionOptions.{FunctionOptions}
@@ -28,11 +29,11 @@ inward op.LogicalOr = Some (Dual op.And)
 inward _ = None
 
 -- a Boolean function over one place
-abbrev pub boolean_call : BooleanFunction → Node → FunctionOptions → AExpr
-boolean_call f input own = ir.Function (record { entries = record { 0 = input } ∷ [] }) (function.Boolean f) own
+abbrev pub boolean_call : EvaluatedBoolean → Node → FunctionOptions → AExpr
+boolean_call f input own = ir.Function (record { entries = record { 0 = input } ∷ [] }) (of_evaluated (function.Boolean f)) own
 
 -- the negation of a Boolean function: what stands under a `not`, or the other null test with the same options
-abbrev pub negated_call : List AExpr → BooleanFunction → BooleanCall → Option AExpr
+abbrev pub negated_call : List AExpr → EvaluatedBoolean → BooleanCall → Option AExpr
 negated_call items boolean.Not call = slice_get items call.input.0
 negated_call items boolean.IsNull call = Some (boolean_call boolean.IsNotNull call.input call.options)
 negated_call items boolean.IsNotNull call = Some (boolean_call boolean.IsNull call.input call.options)

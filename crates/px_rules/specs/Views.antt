@@ -1,8 +1,10 @@
 -- What a node shows to a rule.
 use Rattle.std.specs.Prelude.{List, [], ◌∷◌, Bool, false, Option, Some, None}
-use Rattle.px_types.specs.declared.function.BooleanFunction.{BooleanFunction}
-use Rattle.px_types.specs.declared.function.BooleanFunction.TheVariants.{Not}
-use Rattle.px_types.specs.declared.function.FunctionExpr.TheVariants as function
+use Rattle.px_functions.specs.declared.evaluated.EvaluatedBoolean.{EvaluatedBoolean}
+use Rattle.px_functions.specs.declared.evaluated.EvaluatedBoolean.TheVariants.{Not}
+use Rattle.px_functions.specs.declared.evaluated.EvaluatedFunction.{EvaluatedFunction}
+use Rattle.px_functions.specs.declared.evaluated.EvaluatedFunction.TheVariants as function
+use Rattle.px_functions.specs.Evaluated.{evaluated}
 use Rattle.px_types.specs.declared.options.FunctionOptions.{FunctionOptions}
 use Rattle.px_expr.specs.declared.literal.LiteralValue.{LiteralValue}
 use Rattle.px_expr.specs.declared.literal.LiteralValue.TheVariants as lit
@@ -19,19 +21,23 @@ binary_of (ir.BinaryExpr left op right) = Some (record { left = left; op = op; r
 binary_of _ = None
 
 -- a function over one input
-abbrev pub call_over : BooleanFunction → FunctionOptions → List ExprIR → Option BooleanCall
+abbrev pub call_over : EvaluatedBoolean → FunctionOptions → List ExprIR → Option BooleanCall
 call_over f own (p ∷ []) = Some (record { function = f; input = p.0; options = own })
 call_over f own _ = None
 
+abbrev pub boolean_over : Option EvaluatedFunction → FunctionOptions → List ExprIR → Option BooleanCall
+boolean_over (Some (function.Boolean f)) own inputs = call_over f own inputs
+boolean_over _ own inputs = None
+
 abbrev pub boolean_of : AExpr → Option BooleanCall
-boolean_of (ir.Function input (function.Boolean f) own) = call_over f own input.entries
+boolean_of (ir.Function input f own) = boolean_over (evaluated f) own input.entries
 boolean_of _ = None
 
 abbrev pub boolean_literal_of : AExpr → Option Bool
 boolean_literal_of (ir.Literal (lit.Boolean t)) = Some t
 boolean_literal_of _ = None
 
-abbrev pub if_not : BooleanFunction → BooleanCall → Option BooleanCall
+abbrev pub if_not : EvaluatedBoolean → BooleanCall → Option BooleanCall
 if_not Not call = Some call
 if_not _ call = None
 
@@ -55,7 +61,11 @@ abbrev pub only_place : List ExprIR → Option Node
 only_place (p ∷ []) = Some p.0
 only_place _ = None
 
+abbrev pub negated_place : Option EvaluatedFunction → List ExprIR → Option Node
+negated_place (Some function.Negate) inputs = only_place inputs
+negated_place _ inputs = None
+
 -- the input of a minus of one input
 abbrev pub negate_of : AExpr → Option Node
-negate_of (ir.Function input function.Negate own) = only_place input.entries
+negate_of (ir.Function input f own) = negated_place (evaluated f) input.entries
 negate_of _ = None

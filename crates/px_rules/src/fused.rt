@@ -14,9 +14,10 @@ use crate::rule::OptimizationRule;
 use crate::views::{BinaryParts, binary_of};
 use px_arena::{AExpr, Arena, ExprIR, ExprIRList, Node};
 use px_expr::{Plan, PlanContext};
+use px_functions::{EvaluatedFunction, FunctionExpr};
 use px_types::{
-    ApplyOptions, CastingRules, FmtName, FunctionExpr, FunctionFlags, FunctionOptions,
-    FusedOperator, Operator, PlanError,
+    ApplyOptions, CastingRules, FmtName, FunctionFlags, FunctionOptions, FusedOperator, Operator,
+    PlanError,
 };
 use std::alloc::Global;
 
@@ -120,7 +121,7 @@ fn fused_call(alloc: Global, fusion: Fusion) -> Result<AExpr, PlanError>
     input.try_push(ExprIR(fusion.third))?;
     Ok(AExpr::Function {
         input,
-        function: FunctionExpr::Fused(fusion.operator),
+        function: FunctionExpr::from(EvaluatedFunction::Fused(fusion.operator)),
         options: fused_options(),
     })
 }

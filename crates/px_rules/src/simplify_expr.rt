@@ -14,7 +14,8 @@ use crate::rule::OptimizationRule;
 use crate::views::{BooleanCall, binary_of, boolean_literal_of, boolean_of, literal_of, not_of};
 use px_arena::{AExpr, Arena, ExprIR, ExprIRList, Node};
 use px_expr::{LiteralValue, Plan, PlanContext};
-use px_types::{BooleanFunction, FunctionExpr, FunctionOptions, Operator, PlanError};
+use px_functions::{EvaluatedBoolean, EvaluatedFunction, FunctionExpr};
+use px_types::{FunctionOptions, Operator, PlanError};
 use std::alloc::Global;
 
 /// What a `not` makes of an operator.
@@ -44,7 +45,7 @@ fn inward(op: Operator) -> Option<NegatedOperator>
 /// A Boolean function over one place.
 fn boolean_call(
     alloc: Global,
-    function: BooleanFunction,
+    function: EvaluatedBoolean,
     input: Node,
     options: FunctionOptions,
 ) -> Result<AExpr, PlanError>
@@ -55,7 +56,7 @@ fn boolean_call(
     places.try_push(ExprIR(input))?;
     Ok(AExpr::Function {
         input: places,
-        function: FunctionExpr::Boolean(function),
+        function: FunctionExpr::from(EvaluatedFunction::Boolean(function)),
         options,
     })
 }
@@ -63,7 +64,7 @@ fn boolean_call(
 /// A null test over the input of another one, with its options.
 fn null_test(
     alloc: Global,
-    function: BooleanFunction,
+    function: EvaluatedBoolean,
     inner: BooleanCall,
 ) -> Result<AExpr, PlanError>
     ensures call { IfOk result (λ e. e ≡ boolean_call function inner.input inner.options) }
@@ -79,9 +80,9 @@ fn negated_call(alloc: Global, arena: &Arena, inner: BooleanCall) -> Result<AExp
     ensures err { OnErr result (result ≡ Err PlanError.OutOfMemory) }
 {
     match inner.function {
-        BooleanFunction::Not => arena.get(inner.input).try_clone(alloc),
-        BooleanFunction::IsNull => null_test(alloc, BooleanFunction::IsNotNull, inner),
-        BooleanFunction::IsNotNull => null_test(alloc, BooleanFunction::IsNull, inner),
+        EvaluatedBoolean::Not => arena.get(inner.input).try_clone(alloc),
+        EvaluatedBoolean::IsNull => null_test(alloc, EvaluatedBoolean::IsNotNull, inner),
+        EvaluatedBoolean::IsNotNull => null_test(alloc, EvaluatedBoolean::IsNull, inner),
     }
 }
 
@@ -95,10 +96,10 @@ fn add_not(
     requires { input.0 < length arena.old }
     ensures kept { IsGrown arena.old arena.new }
     ensures next { IfOk result (λ n. n.0 ≡ length arena.old) }
-    ensures added { OnOk result (arena.new ≡ arena.old ++ boolean_call BooleanFunction.Not input options ∷ []) }
+    ensures added { OnOk result (arena.new ≡ arena.old ++ boolean_call EvaluatedBoolean.Not input options ∷ []) }
     ensures err { OnErr result (result ≡ Err PlanError.OutOfMemory) }
 {
-    let negated = boolean_call(alloc, BooleanFunction::Not, input, options)?;
+    let negated = boolean_call(alloc, EvaluatedBoolean::Not, input, options)?;
     arena.add(negated)
 }
 

@@ -8,7 +8,8 @@ ghost use Rattle.px_rules.specs.Views.{binary_of, boolean_of, not_of, boolean_li
 
 use px_arena::{AExpr, Node};
 use px_expr::LiteralValue;
-use px_types::{BooleanFunction, FunctionExpr, FunctionOptions, Operator};
+use px_functions::{EvaluatedBoolean, EvaluatedFunction};
+use px_types::{FunctionOptions, Operator};
 
 /// An operator over two operands.
 #[derive(Clone, Copy)]
@@ -21,7 +22,7 @@ pub struct BinaryParts {
 /// A Boolean function over one input.
 #[derive(Clone, Copy)]
 pub struct BooleanCall {
-    pub function: BooleanFunction,
+    pub function: EvaluatedBoolean,
     pub input: Node,
     pub options: FunctionOptions,
 }
@@ -47,11 +48,11 @@ pub fn boolean_of(expr: &AExpr) -> Option<BooleanCall>
     match expr {
         AExpr::Function {
             input,
-            function: FunctionExpr::Boolean(function),
+            function,
             options,
-        } => match input.as_slice() {
-            [place] => Some(BooleanCall {
-                function: *function,
+        } => match (function.evaluated(), input.as_slice()) {
+            (Some(EvaluatedFunction::Boolean(function)), [place]) => Some(BooleanCall {
+                function,
                 input: place.0,
                 options: *options,
             }),
@@ -77,7 +78,7 @@ pub fn not_of(expr: &AExpr) -> Option<BooleanCall>
 {
     let call = boolean_of(expr)?;
     match call.function {
-        BooleanFunction::Not => Some(call),
+        EvaluatedBoolean::Not => Some(call),
         _ => None,
     }
 }
@@ -119,10 +120,10 @@ pub fn negate_of(expr: &AExpr) -> Option<Node>
     match expr {
         AExpr::Function {
             input,
-            function: FunctionExpr::Negate,
+            function,
             ..
-        } => match input.as_slice() {
-            [place] => Some(place.0),
+        } => match (function.evaluated(), input.as_slice()) {
+            (Some(EvaluatedFunction::Negate), [place]) => Some(place.0),
             _ => None,
         },
         _ => None,

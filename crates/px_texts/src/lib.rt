@@ -10,4 +10,6 @@ mod write;
 pub use columns::{read_column, write_column};
 pub use fields::{add_field, fields_of};
 pub use read::{read_expr, read_text};
-pub use write::{function_name, write_cast, write_literal, write_operator, write_text, write_word};
+pub use write::{
+    write_cast, write_function, write_literal, write_operator, write_text, write_word,
+};

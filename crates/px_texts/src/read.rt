@@ -3,9 +3,9 @@
 use crate::columns::read_column;
 use crate::words::{Word, type_named, word_of};
 use px_expr::{AggExpr, Expr, ExprList, LiteralValue, binary_expr};
+use px_functions::FunctionExpr;
 use px_types::{
-    CastOptions, FunctionExpr, FunctionOptions, List, Operator, PlanError, SmallStr, ValueType,
-    boxed,
+    CastOptions, FunctionOptions, List, Operator, PlanError, SmallStr, ValueType, boxed,
 };
 use std::alloc::Global;
 

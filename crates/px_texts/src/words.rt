@@ -1,6 +1,7 @@
 //! The words that stand for nodes.
 
-use px_types::{BooleanFunction, CastOptions, FusedOperator, Operator, ValueType};
+use px_functions::BooleanFunction;
+use px_types::{CastOptions, FusedOperator, Operator, ValueType};
 
 /// What a word stands for. A function has so many inputs.
 #[derive(Clone, Copy)]
@@ -63,6 +64,7 @@ const NODES: &[(&str, Word)] = &[
         "is_not_null",
         Word::Predicate(BooleanFunction::IsNotNull, 1),
     ),
+    ("is_unique", Word::Predicate(BooleanFunction::IsUnique, 1)),
     ("negate", Word::Negate),
     ("fma", Word::Fused(FusedOperator::MultiplyAdd, 3)),
     ("fma_two", Word::Fused(FusedOperator::MultiplyAdd, 2)),

@@ -2,9 +2,8 @@
 
 use crate::columns::write_column;
 use px_expr::{Expr, ExprList, LiteralValue};
-use px_types::{
-    BooleanFunction, CastOptions, DataType, FunctionExpr, FusedOperator, Operator, PlanError,
-};
+use px_functions::FunctionExpr;
+use px_types::{CastOptions, DataType, Operator, PlanError};
 use std::alloc::Global;
 
 /// Writes a word, after a space where it is not the first.
@@ -70,17 +69,14 @@ pub fn write_cast(
     }
 }
 
-/// The word of a function.
-pub fn function_name(function: &FunctionExpr) -> &'static str {
-    match function {
-        FunctionExpr::Boolean(BooleanFunction::Not) => "not",
-        FunctionExpr::Boolean(BooleanFunction::IsNull) => "is_null",
-        FunctionExpr::Boolean(BooleanFunction::IsNotNull) => "is_not_null",
-        FunctionExpr::Negate => "negate",
-        FunctionExpr::Fused(FusedOperator::MultiplyAdd) => "fma",
-        FunctionExpr::Fused(FusedOperator::SubMultiply) => "fsm",
-        FunctionExpr::Fused(FusedOperator::MultiplySub) => "fms",
-    }
+/// Writes a function.
+pub fn write_function(
+    alloc: Global,
+    text: &mut String,
+    function: &FunctionExpr,
+) -> Result<(), PlanError> {
+    let word = format!(in alloc; "{function}")?;
+    write_word(text, word.as_str())
 }
 
 /// Writes an operator.
@@ -141,7 +137,7 @@ pub fn write_text(alloc: Global, text: &mut String, expr: &Expr) -> Result<(), P
             options: _,
         } => {
             write_all(alloc, text, input)?;
-            write_word(text, function_name(function))
+            write_function(alloc, text, function)
         }
         _ => write_word(text, "other"),
     }

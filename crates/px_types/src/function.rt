@@ -1,20 +1,8 @@
-//! The functions of expressions.
-ghost use Rattle.std.specs.Prelude.{◌≡◌, IsTrue, ◌↔◌};
-ghost use Rattle.px_base.specs.Answer.{GivesOrMemory};
+//! Functions over bits, and fused operators.
+ghost use Rattle.std.specs.Prelude.{◌≡◌};
 ghost use Rattle.px_types.specs.FunctionTexts.{bitwise_text, fused_text};
 
-use px_base::PlanError;
-use std::alloc::Global;
 use std::fmt;
-
-/// A function that answers Booleans, or that takes them apart.
-#[derive(Clone, Copy, Debug, PartialEq, Eq, Hash)]
-pub enum BooleanFunction {
-    IsNull,
-    IsNotNull,
-    /// The negation of a Boolean, or the complement of an integer.
-    Not,
-}
 
 /// A function over the bits of values: a count for each row, or a reduction of all rows.
 #[derive(Clone, Copy, Debug, PartialEq, Eq, Hash)]
@@ -37,74 +25,6 @@ pub enum FusedOperator {
     MultiplyAdd,
     SubMultiply,
     MultiplySub,
-}
-
-/// A function over the inputs of an expression.
-#[derive(Drop)]
-pub enum FunctionExpr {
-    Boolean(BooleanFunction),
-    Negate,
-    Fused(FusedOperator),
-}
-
-fn same_function(a: &FunctionExpr, b: &FunctionExpr) -> bool
-    ensures { IsTrue result ↔ (a.now ≡ b.now) }
-{
-    match (a, b) {
-        (FunctionExpr::Boolean(a), FunctionExpr::Boolean(b)) => *a == *b,
-        (FunctionExpr::Negate, FunctionExpr::Negate) => true,
-        (FunctionExpr::Fused(a), FunctionExpr::Fused(b)) => *a == *b,
-        _ => false,
-    }
-}
-
-impl PartialEq for FunctionExpr {
-    ghost use Rattle.px_base.specs.Exact.{same};
-    ghost use Rattle.px_base.proofs.Exact.{same-partial};
-    ghost use Rattle.px_types.specs.contracts.function.FunctionExpr.{the_row};
-    ghost use Rattle.std.specs.Prelude.{◌≡◌, IsTrue, ◌↔◌};
-
-    ghost eq = { same the_row.coded };
-
-    ghost laws = { same-partial the_row.coded };
-
-    fn eq(&self, other: &FunctionExpr) -> bool
-        ensures value { result ≡ same the_row.coded self.now other.now }
-        ensures exact { IsTrue result ↔ (self.now ≡ other.now) }
-    {
-        same_function(self, other)
-    }
-}
-
-impl Eq for FunctionExpr {
-    ghost use Rattle.px_base.proofs.Exact.{same-equivalence};
-    ghost use Rattle.px_types.specs.contracts.function.FunctionExpr.{the_row};
-
-    ghost laws = { same-equivalence the_row.coded };
-}
-
-impl FunctionExpr {
-    /// An equal function. The only error is out of memory.
-    pub fn try_clone(&self, _alloc: Global) -> Result<FunctionExpr, PlanError>
-        ensures { GivesOrMemory result self.now }
-    {
-        match self {
-            FunctionExpr::Boolean(function) => Ok(FunctionExpr::Boolean(*function)),
-            FunctionExpr::Negate => Ok(FunctionExpr::Negate),
-            FunctionExpr::Fused(operator) => Ok(FunctionExpr::Fused(*operator)),
-        }
-    }
-}
-
-impl From<BooleanFunction> for FunctionExpr {
-    ghost use Rattle.std.specs.Prelude.{◌≡◌};
-    ghost use Rattle.px_types.specs.declared.function.FunctionExpr.TheVariants.{Boolean};
-
-    ghost from_gives = { λ function answer. answer ≡ Boolean function };
-
-    fn from(function: BooleanFunction) -> FunctionExpr {
-        FunctionExpr::Boolean(function)
-    }
 }
 
 impl BitwiseFunction {

@@ -1,4 +1,4 @@
-//! The types of columns and of values, their common types, schemas, operators and functions.
+//! The types of columns and of values, their common types, schemas, operators and options.
 #![tactic(auto)]
 
 mod any_value;
@@ -18,7 +18,7 @@ mod value_type;
 
 pub use any_value::{AnyValue, materialize_dyn_int};
 pub use dtype::{DataType, Field, FieldList, TypeList};
-pub use function::{BitwiseFunction, BooleanFunction, FunctionExpr, FusedOperator};
+pub use function::{BitwiseFunction, FusedOperator};
 pub use laws::{
     common_is_commutative, common_is_idempotent, first_repeated_is_found, null_is_neutral,
     null_is_neutral_in_supertype, supertype_is_commutative, supertype_is_idempotent,

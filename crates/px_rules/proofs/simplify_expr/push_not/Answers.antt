@@ -1,5 +1,5 @@
 use Rattle.std.proofs.Common.{◌≡◌, ◌<◌, ◌++◌, [], ◌∷◌, length, sym, ◌∙◌, ap, Some, not, arith, length-append}
-use Rattle.px_types.specs.declared.function.BooleanFunction.TheVariants.{Not}
+use Rattle.px_functions.specs.declared.evaluated.EvaluatedBoolean.TheVariants.{Not}
 use Rattle.px_arena.proofs.Measure.{denoted_within}
 use Rattle.px_rules.specs.Negation.{boolean_call}
 use Rattle.px_expr.specs.Kernel.{all_kernels}
