@@ -27,6 +27,7 @@ use Rattle.px_rules.specs.Plan.{IsCheckedAt}
 use Rattle.px_rules.specs.Booleans.{absorbing, given, decided, in_filter}
 use Rattle.px_rules.specs.Views.{binary_of, boolean_literal_of, is_scalar_literal}
 use Rattle.px_rules.proofs.Parts.{RewriteIn, is_rewrite_of}
+use Rattle.px_rules.proofs.FunctionNodes.{at_function}
 use Rattle.px_rules.proofs.Shows.{ReadsBinary, reads_binary, shows_binary, reads_boolean, reads_leaf}
 
 -- what trees show
@@ -45,10 +46,12 @@ root_of_tree (tree k us) = k
 boolean_at : (x : AExpr) → boolean_literal_of x ≡ boolean_root (root_of x)
 boolean_at (ir.Literal (lit.Boolean t)) = refl
 boolean_at (ir.Literal v) = refl
+boolean_at (ir.Function input f own) = sym (at_function boolean_root None (λ g. refl) (λ g. refl) f)
 boolean_at _ = refl
 
 scalar_at : (x : AExpr) → is_scalar_literal x ≡ scalar_root (root_of x)
 scalar_at (ir.Literal v) = refl
+scalar_at (ir.Function input f own) = sym (at_function scalar_root false (λ g. refl) (λ g. refl) f)
 scalar_at _ = refl
 
 seen_root : (items : List AExpr) (n : ℕ) (x : AExpr) (t : Tree) → Denotes items n t → slice_get items n ≡ Some x → root_of x ≡ root_of_tree t

@@ -36,6 +36,7 @@ use Rattle.px_rules.specs.Fusion.{is_literal_free, if_product, option_product, p
 use Rattle.px_rules.specs.Groups.{group_of, fused_products, IsRewriteIn}
 use Rattle.px_rules.specs.Plan.{IsCheckedAt}
 use Rattle.px_rules.specs.Views.{binary_of}
+use Rattle.px_rules.proofs.FunctionNodes.{at_function}
 use Rattle.px_rules.proofs.LiteralFree.{and_parts, free_is, is_free_of}
 use Rattle.px_rules.proofs.Parts.{RewriteIn, is_rewrite_of}
 use Rattle.px_rules.proofs.Shows.{ReadsBinary, reads_binary, shows_binary}
@@ -86,6 +87,7 @@ is_product_root k us = refl
 no_product_root : (x : AExpr) → product_of x ≡ None → product_root (root_of x) ≡ false
 no_product_root (ir.BinaryExpr l op.Multiply r) e = cc
 no_product_root (ir.BinaryExpr l o r) e = refl
+no_product_root (ir.Function input f own) e = at_function product_root false (λ g. refl) (λ g. refl) f
 no_product_root _ e = refl
 
 no_product : (items : List AExpr) (n : ℕ) (x : AExpr) (t : Tree) → Denotes items n t → slice_get items n ≡ Some x → product_of x ≡ None → is_product t ≡ false

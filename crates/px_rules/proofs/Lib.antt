@@ -3,6 +3,7 @@ pub mod Turns
 pub mod Visits
 pub mod Walks
 pub mod Parts
+pub mod FunctionNodes
 pub mod Shows
 pub mod KeptOptions
 pub mod NegationRewrites

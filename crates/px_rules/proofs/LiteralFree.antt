@@ -3,13 +3,15 @@ use Rattle.std.proofs.Common.{◌≡◌, ℕ, zero, suc, ◌+◌, ◌≤◌, ◌
 use Rattle.std.specs.List.{slice_get}
 use Rattle.std.proofs.lemmas.Bool.{cases_eq}
 use Rattle.std.proofs.lemmas.Option.{same_Some}
-use Rattle.px_expr.specs.Tree.{Node as Root, Tree, tree, Trees, none, more, fold_trees}
+use Rattle.px_functions.specs.declared.function.FunctionExpr.{FunctionExpr}
+use Rattle.px_expr.specs.Tree.{Node as Root, function_node, Tree, tree, Trees, none, more, fold_trees}
 use Rattle.px_meaning.specs.Names.{name, node_name, first_name}
 use Rattle.px_meaning.specs.Rewrites.{is_literal, HasNoLiteral, HaveNoLiteral}
 use Rattle.px_arena.specs.declared.node.AExpr.{AExpr}
 use Rattle.px_arena.specs.declared.node.AExpr.TheVariants as ir
 use Rattle.px_arena.specs.Denotes.{root_of, inputs_of, Denotes, DenoteAll}
 use Rattle.px_arena.proofs.Reading.{holds}
+use Rattle.px_rules.proofs.FunctionNodes.{at_function}
 use Rattle.px_rules.specs.Fusion.{is_literal_free, are_literal_free, name_input, own_name}
 
 -- the first i of the places denote trees without literals
@@ -121,6 +123,10 @@ first_below items k (n ∷ ns) (more u us) m plain (d, ds) e =
     let same : n ≡ m = same_Some n m e in
     record { under = u; denotes = subst (λ (z : ℕ). Denotes items z u) same d; same = plain (name u ∷ fold_trees node_name us) }
 
+-- a function has its first input's name
+named_first : (names : List (List ℕ)) (f : FunctionExpr) → node_name (function_node f) names ≡ first_name names
+named_first names f = at_function (λ n. node_name n names) (first_name names) (λ g. refl) (λ g. refl) f
+
 name_below : (items : List AExpr) (x : AExpr) (us : Trees) (m : ℕ) → DenoteAll items (inputs_of x) us → name_input x ≡ Some m → Below items m (tree (root_of x) us)
 name_below items (ir.Alias input nm) us m ds e = cc
 name_below items (ir.Column nm) us m ds e = cc
@@ -137,7 +143,7 @@ name_below items (ir.Gather a b o) us m ds e = first_below items _ (a.0 ∷ b.0 
 name_below items (ir.Slice a b o) us m ds e = first_below items _ (a.0 ∷ b.0 ∷ o.0 ∷ []) us m (λ names. refl) ds e
 name_below items (ir.Filter a b) us m ds e = first_below items _ (a.0 ∷ b.0 ∷ []) us m (λ names. refl) ds e
 name_below items (ir.Agg a) us m ds e = first_below items _ (inputs_of (ir.Agg a)) us m (λ names. refl) ds e
-name_below items (ir.Function input f own) us m ds e = first_below items _ (inputs_of (ir.Function input f own)) us m (λ names. refl) ds e
+name_below items (ir.Function input f own) us m ds e = first_below items (function_node f) (inputs_of (ir.Function input f own)) us m (λ names. named_first names f) ds e
 name_below items (ir.AnonymousFunction input f own) us m ds e = first_below items _ (inputs_of (ir.AnonymousFunction input f own)) us m (λ names. refl) ds e
 
 no_input : (items : List AExpr) (k : Root) (ns : List ℕ) (us : Trees) → ((names : List (List ℕ)) → node_name k names ≡ first_name names) → DenoteAll items ns us → slice_get ns 0 ≡ None → name (tree k us) ≡ []
@@ -157,7 +163,7 @@ name_here items (ir.Gather a b o) us ds e = cc
 name_here items (ir.Slice a b o) us ds e = cc
 name_here items (ir.Filter a b) us ds e = cc
 name_here items (ir.Agg a) us ds e = no_input items (root_of (ir.Agg a)) (inputs_of (ir.Agg a)) us (λ names. refl) ds e
-name_here items (ir.Function input f own) us ds e = no_input items (root_of (ir.Function input f own)) (inputs_of (ir.Function input f own)) us (λ names. refl) ds e
+name_here items (ir.Function input f own) us ds e = no_input items (root_of (ir.Function input f own)) (inputs_of (ir.Function input f own)) us (λ names. named_first names f) ds e
 name_here items (ir.AnonymousFunction input f own) us ds e = no_input items (root_of (ir.AnonymousFunction input f own)) (inputs_of (ir.AnonymousFunction input f own)) us (λ names. refl) ds e
 
 pub named_below : (items : List AExpr) (n m : ℕ) (x : AExpr) (t : Tree) → Denotes items n t → slice_get items n ≡ Some x → name_input x ≡ Some m → (u : Tree) × Denotes items m u × (name t ≡ name u)

@@ -10,7 +10,9 @@ use Rattle.px_types.specs.declared.operator.Operator.TheVariants as op
 use Rattle.px_types.specs.declared.options.FunctionOptions.{FunctionOptions}
 use Rattle.px_expr.specs.declared.context.Context.{Context}
 use Rattle.px_expr.specs.declared.literal.LiteralValue.TheVariants as lit
-use Rattle.px_expr.specs.Tree.{Function, Binary, Literal, Tree, none, more}
+use Rattle.px_functions.specs.Evaluated.{of_evaluated}
+use Rattle.px_meaning.proofs.EvaluatedFunctions.{evaluated_of}
+use Rattle.px_expr.specs.Tree.{node_for, Function, Binary, Literal, Tree, none, more}
 use Rattle.px_meaning.specs.Check.{IsChecked}
 use Rattle.px_meaning.specs.declared.rewrite.RewriteName.TheVariants as named
 use Rattle.px_meaning.specs.declared.rewrite.RewriteName.{RewriteName}
@@ -246,7 +248,7 @@ module _ (c : Catalog) (context : Context) where
         call (function.Boolean g) r.under,
         a.denotes,
         is_rewrite_of pushed_negations c context a.t (not_tree (call (function.Boolean f) r.under)) (call (function.Boolean g) r.under) same (rewritten r.under) a.checked,
-        below_fits items n k.input.0 a.t x (boolean_call g l.input l.options) (Function (function.Boolean g)) (more r.under none) a.denotes at a.is_input refl (r.denotes, tt)
+        below_fits items n k.input.0 a.t x (boolean_call g l.input l.options) (Function (function.Boolean g)) (more r.under none) a.denotes at a.is_input (ap (node_for (of_evaluated (function.Boolean g))) (evaluated_of (function.Boolean g))) (r.denotes, tt)
             (λ m i. one m i (below y at2 r.is_input here)),
       ) in
       subst (λ (z : AExpr). Offers NotRewrite items items n (Some z)) (sym made) answer

@@ -1,5 +1,5 @@
 -- What the parts that a node shows say of the tree that its place denotes.
-use Rattle.std.proofs.Common.{◌≡◌, ℕ, List, [], ◌∷◌, Bool, Option, Some, None, refl, sym, ◌∙◌, ap, subst}
+use Rattle.std.proofs.Common.{◌≡◌, ℕ, List, [], ◌∷◌, Bool, true, false, Option, Some, None, refl, sym, ◌∙◌, ap, subst}
 use Rattle.std.specs.List.{slice_get}
 use Rattle.std.proofs.lemmas.Option.{same_Some}
 use Rattle.px_functions.specs.declared.evaluated.EvaluatedBoolean.{EvaluatedBoolean}
@@ -23,6 +23,7 @@ use Rattle.px_arena.specs.Denotes.{root_of, inputs_of, expr_places, Denotes, Den
 use Rattle.px_arena.proofs.Reading.{Holds, holds}
 use Rattle.px_rules.specs.declared.views.BinaryParts.{BinaryParts}
 use Rattle.px_rules.specs.declared.views.BooleanCall.{BooleanCall}
+use Rattle.px_rules.proofs.FunctionNodes.{is_function, is_function-node, node-evaluated}
 use Rattle.px_rules.specs.Views.{binary_of, boolean_of, boolean_over, call_over, if_not, option_not, not_of, boolean_literal_of, literal_of, only_place, negated_place, negate_of}
 
 -- a place that holds a node of one input
@@ -110,6 +111,7 @@ is_binary :
     (items : List AExpr) (x : AExpr) (o : Operator) (a b : Tree) → root_of x ≡ Binary o → DenoteAll items (inputs_of x) (more a (more b none)) →
     (p : BinaryParts) × (binary_of x ≡ Some p) × (p.op ≡ o) × Denotes items p.left.0 a × Denotes items p.right.0 b
 is_binary items (ir.BinaryExpr l q r) o a b e (da, (db, ds)) = let same : q ≡ o = cc in (record { left = l; op = q; right = r }, refl, same, da, db)
+is_binary items (ir.Function input f own) o a b e ds = let h : false ≡ true = sym (ap is_function e) ∙ is_function-node f in cc
 is_binary items _ o a b e ds = cc
 
 pub shows_binary :
@@ -120,14 +122,6 @@ shows_binary items n x o a b (y, at', root, ins) at =
     is_binary items x o a b (sym (ap root_of e) ∙ root) (subst (λ (z : AExpr). DenoteAll items (inputs_of z) (more a (more b none))) e ins)
 
 -- functions over one input
-
--- an evaluated function's node tells the function
-node-evaluated : (g : FunctionExpr) (f : EvaluatedFunction) → function_node g ≡ Function f → evaluated g ≡ Some f
-node-evaluated g f e = go (evaluated g) e
-  where
-    go : (o : Option EvaluatedFunction) → node_for g o ≡ Function f → o ≡ Some f
-    go (Some h) e = let same : h ≡ f = cc in ap Some same
-    go None e = cc
 
 record IsCall (x : AExpr) (k : BooleanCall) : Type 0 where
   root : root_of x ≡ Function (function.Boolean k.function)
@@ -225,6 +219,7 @@ reads_boolean items n x b t d at e =
 
 is_boolean : (x : AExpr) (b : Bool) → root_of x ≡ Literal (lit.Boolean b) → boolean_literal_of x ≡ Some b
 is_boolean (ir.Literal (lit.Boolean s)) b e = let same : s ≡ b = cc in ap Some same
+is_boolean (ir.Function input f own) b e = let h : false ≡ true = sym (ap is_function e) ∙ is_function-node f in cc
 is_boolean _ b e = cc
 
 pub shows_boolean : (items : List AExpr) (n : ℕ) (x : AExpr) (b : Bool) → Denotes items n (truth b) → slice_get items n ≡ Some x → boolean_literal_of x ≡ Some b
@@ -249,6 +244,7 @@ reads_literal items n x v t d at e =
 
 is_literal_node : (x : AExpr) (v : LiteralValue) → root_of x ≡ Literal v → literal_of x ≡ Some v
 is_literal_node (ir.Literal w) v e = let same : w ≡ v = cc in ap Some same
+is_literal_node (ir.Function input f own) v e = let h : false ≡ true = sym (ap is_function e) ∙ is_function-node f in cc
 is_literal_node _ v e = cc
 
 pub shows_literal : (items : List AExpr) (n : ℕ) (x : AExpr) (v : LiteralValue) → Denotes items n (literal v) → slice_get items n ≡ Some x → literal_of x ≡ Some v
