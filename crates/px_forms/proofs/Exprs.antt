@@ -1,12 +1,14 @@
 -- Expressions of a list are written.
-use Rattle.std.proofs.Common.{◌≡◌, ℕ, ◌<◌, ◌+◌, List, [], ◌∷◌, ◌++◌, map, drop, length, get_or, codes, Option, Some, None, option_map, Result, Ok, Err, Vec, Global, refl, ap, ◌∙◌, drop-cons, add-one}
+use Rattle.std.proofs.Common.{◌≡◌, ℕ, ◌<◌, ◌+◌, List, [], ◌∷◌, ◌++◌, map, drop, length, get_or, codes, Option, Some, None, option_map, Result, Ok, Err, Vec, Global, refl, sym, ap, ◌∙◌, drop-cons, add-one}
 use Rattle.std.proofs.lemmas.List.{map-append}
 use Rattle.serde_json.specs.Data.{Data, string, array}
 use Rattle.serde_json.specs.View.{view, items_of}
 use Rattle.serde_json.specs.declared.value.Value.{Value}
 use Rattle.px_base.specs.declared.error.PlanError.{PlanError}
 use Rattle.px_functions.specs.declared.evaluated.EvaluatedFunction.{EvaluatedFunction}
-use Rattle.px_expr.specs.Tree.{Node, Tree, over, tree_of}
+use Rattle.px_functions.specs.declared.function.FunctionExpr.{FunctionExpr}
+use Rattle.px_functions.specs.Evaluated.{evaluated}
+use Rattle.px_expr.specs.Tree.{Node, Tree, node_for, function_node, over, tree_of}
 use Rattle.px_expr.specs.declared.expr.Expr.{Expr}
 use Rattle.px_base.specs.Answer.{GivesSeen}
 use Rattle.px_json.specs.Built.{single_member}
@@ -33,6 +35,13 @@ pub written_all : (ts : List Tree) (before : List Data) (r : Result (Option (Vec
     → GivesSeen (option_map (λ (v : Vec Value Global). map view v.items)) r (all_data ts)
 written_all ts before (Ok o) none e = e ∙ ap (λ (ds : List Data). option_map (λ us. ds ++ us) (all_data ts)) none ∙ after_none (all_data ts)
 written_all ts before (Err f) none e = e
+
+-- a function that is not evaluated has no form, and one that is has its node's
+pub function_unwritten : (f : FunctionExpr) (ts : List Tree) → evaluated f ≡ None → None ≡ data_of (over (function_node f) ts)
+function_unwritten f ts is = ap (λ (o : Option EvaluatedFunction). data_of (over (node_for f o) ts)) (sym is)
+
+pub function_form : (f : FunctionExpr) (own : EvaluatedFunction) (ts : List Tree) → evaluated f ≡ Some own → data_of (over (Node.Function own) ts) ≡ data_of (over (function_node f) ts)
+function_form f own ts is = ap (λ (o : Option EvaluatedFunction). data_of (over (node_for f o) ts)) (sym is)
 
 -- a function is written as its text and its inputs after it
 pub function_written : (f : EvaluatedFunction) (ts : List Tree) (before : List Data) (o : Option (List Data)) → before ≡ string (function_text f) ∷ [] → o ≡ option_map (λ us. before ++ us) (all_data ts)

@@ -207,10 +207,10 @@ fn function_value(
     ensures { GivesSeen (option_map view) result
         (data_of (over (function_node function.now) (map tree_of inputs.now))) }
 {
-    let Some(function) = function.evaluated() else {
+    let Some(evaluated) = function.evaluated() else {
         return Ok(None);
     };
-    let items = build::function_front(alloc, function)?;
+    let items = build::function_front(alloc, evaluated)?;
     let Some(items) = values_after(alloc, items, inputs)? else {
         return Ok(None);
     };
