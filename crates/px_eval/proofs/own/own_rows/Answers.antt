@@ -2,7 +2,9 @@ use Rattle.std.proofs.Common.{◌≡◌, ◌∙◌, sym, ap, Some, None}
 use Rattle.std.specs.Option.{option_copied}
 use Rattle.px_semantics.specs.Frames.{column_named}
 use Rattle.px_column.specs.Buffers.{values_of}
-use Rattle.px_eval.proofs.Single.{outside, binary_case, cast_case, ternary_case, alias_case, column_case, column_there, literal_typed, literal_case, shared_ok, cast_ok, given_err, owned_ok, owned_err}
+use Rattle.px_expr.specs.Tree.{node_for}
+use Rattle.px_arena.specs.Denotes.{root_of}
+use Rattle.px_eval.proofs.Single.{outside, not_evaluated, binary_case, cast_case, ternary_case, alias_case, column_case, column_there, literal_typed, literal_case, shared_ok, cast_ok, given_err, owned_ok, owned_err}
 use Rattle.px_base.proofs.Answers as refusal
 use Rattle.px_base.specs.declared.error.PlanError.TheVariants.{InvalidCast}
 use Rattle.px_eval.specs.Table as table_rows
@@ -30,6 +32,11 @@ literal-requires g c = literal_typed (g.K.Kernels.definitions c.args.kernels.now
 
 pub returns-in-Ok-clause-ok : goal.returns-in-Ok-clause-ok
 returns-in-Ok-clause-ok g c = literal_case (g.K.Kernels.definitions c.args.kernels.now) c.args.frame.now c.requires.fits c.args.table.now c.args.expr.now c.in-Literal.value c.in-Literal.is c.requires.ready ∙ c.in-Ok.ensures.ok
+
+pub unreachable-requires-in-None-evaluated : goal.unreachable-requires-in-None-evaluated
+unreachable-requires-in-None-evaluated g c =
+    let is = ap root_of c.in-Function.is ∙ ap (node_for c.in-Function.function) (sym c.evaluated.ensures ∙ c.in-None-evaluated.is) in
+    not_evaluated (g.K.Kernels.definitions c.args.kernels.now) c.args.frame.now c.requires.fits c.args.table.now c.args.expr.now c.in-Function.function is c.requires.ready
 
 pub unreachable-requires-in-Gather : goal.unreachable-requires-in-Gather
 unreachable-requires-in-Gather g c = outside (g.K.Kernels.definitions c.args.kernels.now) c.args.frame.now c.requires.fits c.args.table.now c.args.expr.now _ c.in-Gather.is tt c.requires.ready
