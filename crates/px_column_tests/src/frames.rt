@@ -1,7 +1,7 @@
 //! Columns at the ends of their types and with nulls.
 
-use crate::columns::{Rows, Want, agrees, column, fault};
 use px_column::{Column, ColumnList, Frame, join_lengths, stretch};
+use px_test_columns::{Rows, Want, agrees, column, fault, wrong_call};
 use px_types::PlanError;
 use px_types::ValueType::{self, Boolean, Int8, Null, String};
 use std::alloc::Global;
@@ -13,11 +13,6 @@ use std::test::Fail;
 enum Call {
     Stretch(u32),
     Copy,
-}
-
-/// The answer to a call that breaks the kernel's rules.
-fn wrong_call() -> Result<Column, PlanError> {
-    Err(PlanError::KernelFailed)
 }
 
 fn stretched(alloc: Global, a: &Column, len: u32) -> Result<Column, PlanError> {

@@ -1,19 +1,17 @@
 //! Calls of kernels on columns that are given as plain data.
-ghost use Rattle.std.specs.Prelude.{◌⊎◌, IsTrue, Some};
+ghost use Rattle.std.specs.Prelude.{IsTrue};
 ghost use Rattle.px_semantics.specs.Arithmetic.{IsArithmetic};
 ghost use Rattle.px_semantics.specs.Casts.{IsScalar};
 ghost use Rattle.px_semantics.specs.Comparisons.{IsComparison};
-ghost use Rattle.px_types.specs.Integers.{IsInteger};
-ghost use Rattle.px_semantics.specs.Rows.{IsBoolean};
 ghost use Rattle.px_kernels.specs.OperandTypes.{IsSigned};
 
-use crate::columns::{Rows, Want, agrees, column, wrong_call};
 use px_column::Column;
 use px_functions::EvaluatedBoolean;
 use px_kernels::{
     arith, cast, compare, fused, is_not_null, is_null, kleene_and, kleene_or, kleene_xor, negate,
     negate_bitwise, zip_with,
 };
+use px_test_columns::{Rows, Want, agrees, column, is_boolean, is_boolean_or_integer, wrong_call};
 use px_types::{CastOptions, FusedOperator, Operator, PlanError, ValueType};
 use std::alloc::Global;
 
@@ -31,24 +29,6 @@ fn is_scalar(value_type: ValueType) -> bool
 {
     match value_type {
         ValueType::String => false,
-        _ => true,
-    }
-}
-
-fn is_boolean(value_type: ValueType) -> bool
-    ensures { IsTrue result → IsBoolean value_type }
-{
-    match value_type {
-        ValueType::Boolean => true,
-        _ => false,
-    }
-}
-
-fn is_operand_of_logic(value_type: ValueType) -> bool
-    ensures { IsTrue result → IsBoolean value_type ⊎ IsInteger value_type }
-{
-    match value_type {
-        ValueType::Null | ValueType::String => false,
         _ => true,
     }
 }
@@ -88,7 +68,7 @@ fn negated(alloc: Global, a: &Column) -> Result<Column, PlanError> {
 }
 
 fn inverse(alloc: Global, a: &Column) -> Result<Column, PlanError> {
-    if !is_operand_of_logic(a.value_type()) {
+    if !is_boolean_or_integer(a.value_type()) {
         return wrong_call();
     }
     negate_bitwise(alloc, a)
@@ -103,7 +83,7 @@ fn predicate(alloc: Global, function: EvaluatedBoolean, a: &Column) -> Result<Co
 }
 
 fn logic(alloc: Global, op: Operator, a: &Column, b: &Column) -> Result<Column, PlanError> {
-    if !is_operand_of_logic(a.value_type()) {
+    if !is_boolean_or_integer(a.value_type()) {
         return wrong_call();
     }
     if a.value_type() != b.value_type() {

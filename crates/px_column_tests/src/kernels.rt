@@ -1,9 +1,9 @@
 //! Each kernel on short columns: at zero, at null, at lengths that do not broadcast, and on strings. The rows at
 //! the ends of each integer type are documents of px_cases.
 
-use crate::columns::{Rows, Want};
 use crate::kernel_calls::{Call, gives};
 use px_functions::EvaluatedBoolean::{self, IsNotNull, IsNull, Not};
+use px_test_columns::{Rows, Want};
 use px_types::CastOptions::{self, NonStrict, Overflowing, Strict};
 use px_types::FusedOperator::{self, MultiplyAdd, MultiplySub, SubMultiply};
 use px_types::Operator::{

@@ -1,0 +1,4 @@
+pub mod Broadcasts
+pub mod BoundedRows
+pub mod Signed
+pub mod CountRows

@@ -1,0 +1,18 @@
+use Rattle.px_semantics.specs.Horizontals.{coalesce_rows, coalesce_row}
+use Rattle.px_column.specs.Buffers.{values_of}
+use Rattle.px_horizontals.specs.Choices.{chosen}
+use Rattle.px_horizontals.specs.Folds.{fold_row}
+use Rattle.px_horizontals.specs.Inputs.{values_of_buffers, first_type}
+use Rattle.px_horizontals.specs.declared.choices.Choice.TheVariants as choice
+use Rattle.px_horizontals.proofs.HorizontalRows.{law_answer}
+use Rattle.px_horizontals.proofs.Kernels.{some_buffers}
+use Rattle.px_horizontals.proofs.Laws.{coalesce_law}
+use Rattle.px_horizontals.proofs.horizontals.coalesce_buffers.Goals as goal
+
+pub returns : goal.returns
+unfolding coalesce_rows
+returns c =
+    let columns = values_of_buffers c.args.inputs.now in
+    let k = first_type columns in
+    law_answer k k (fold_row (chosen choice.First)) coalesce_row (coalesce_law k) values_of columns (some_buffers c.args.inputs.now c.requires.some) c.requires.same
+    c.folded.result c.folded.ensures.typed c.folded.ensures.rows

@@ -1,0 +1,25 @@
+use Rattle.std.proofs.Common.{◌∙◌, ap, sym, arith, get_or, None, option_map}
+use Rattle.px_semantics.specs.Rows.{integer_row}
+use Rattle.px_horizontals.specs.Places.{place_in}
+use Rattle.px_horizontals.specs.Sums.{added_number, added}
+use Rattle.px_horizontals.proofs.Chosen.{joined_more, joined_short, joined_all}
+use Rattle.px_horizontals.proofs.SumRows.{number_back}
+use Rattle.px_horizontals.proofs.sums.added_integers.Goals as goal
+
+pub loop-i-preserved : goal.loop-i-preserved
+loop-i-preserved g c =
+    let b = c.args.b.now in
+    let i = c.loop-i.i in
+    joined_more (added c.args.ignore_nulls g.T.Integer.value_type) c.args.a.now b _ _ _ _ _ i (omega (arith, c.len-count.ensures.rows)) c.requires c.loop-i.invariant c.get.ensures
+    (c.get-second.ensures ∙ ap (λ k. get_or b k None) (c.place_in.ensures.value ∙ ap (λ n. place_in n i) c.len-other.ensures.rows))
+    (c.added_integer.ensures ∙ ap (added_number c.args.ignore_nulls g.T.Integer.value_type (integer_row (option_map g.T.Integer.integer c.get.result))) (sym (number_back (option_map g.T.Integer.integer c.get-second.result))))
+    c.in_ok-push.ensures.ok
+
+pub finish-requires : goal.finish-requires
+finish-requires g c =
+    joined_short (added c.args.ignore_nulls g.T.Integer.value_type) c.args.a.now c.args.b.now c.loop-i.rows c.loop-i.i (omega (arith, c.len-count.ensures.rows))
+    (omega (arith, c.len-count.ensures.rows, c.len-count.ensures.below_limit)) c.requires c.loop-i.invariant
+
+pub returns : goal.returns
+returns g c =
+    joined_all (added c.args.ignore_nulls g.T.Integer.value_type) c.args.a.now c.args.b.now c.loop-i.rows c.loop-i.i c.finish.result (omega (arith, c.len-count.ensures.rows)) c.requires c.loop-i.invariant c.finish.ensures

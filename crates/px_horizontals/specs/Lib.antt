@@ -1,0 +1,5 @@
+pub mod Inputs
+pub mod Folds
+pub mod Places
+pub mod Choices
+pub mod Sums
