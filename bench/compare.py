@@ -19,16 +19,6 @@ LABELS = (
     "zip_with",
     "negate",
     "cast Int32 to Int64",
-    "sum",
-    "min",
-    "any",
-    "filter at a half",
-    "filter at a hundredth",
-    "gather at random",
-    "gather in order",
-    "fill_null",
-    "clip",
-    "is_between",
 )
 OTHER = 3_266_489_917
 
@@ -53,11 +43,6 @@ def kernels(np, rows):
     """Each piece of work that numpy does, on a value array and a validity array for each column."""
     va, p, a = column(np, rows, 0)
     vb, q, b = column(np, rows, OTHER)
-    bits = mixed(np, np.arange(rows, dtype=np.uint32), OTHER)
-    rare, never = bits % 100 == 0, bits % 100 < 0
-    random = (bits % np.uint32(max(rows, 1))).astype(np.int32)
-    ordered = np.arange(rows, dtype=np.int32)
-    low, high = np.int32(-500), np.int32(500)
 
     def floor_divide():
         nonzero = b != 0
@@ -76,16 +61,6 @@ def kernels(np, rows):
         "zip_with": lambda: (np.where(p, a, b), np.where(p, va, vb)),
         "negate": lambda: (-a, va.copy()),
         "cast Int32 to Int64": lambda: (a.astype(np.int64), va.copy()),
-        "sum": lambda: np.sum(a, where=va, dtype=np.int32),
-        "min": lambda: np.min(a, where=va, initial=np.int32(2**31 - 1)),
-        "any": lambda: np.any(never),
-        "filter at a half": lambda: (a[p], va[p]),
-        "filter at a hundredth": lambda: (a[rare], va[rare]),
-        "gather at random": lambda: (a[random], va[random]),
-        "gather in order": lambda: (a[ordered], va[ordered]),
-        "fill_null": lambda: (np.where(va, a, high), np.ones(rows, dtype=bool)),
-        "clip": lambda: (np.clip(a, low, high), va.copy()),
-        "is_between": lambda: ((low <= a) & (a <= high) & va, va.copy()),
     }
 
 

@@ -136,67 +136,6 @@ impl Numbers<i32> {
     }
 }
 
-impl Bits {
-    /// Calls `visit` with each position whose bit is set, in order.
-    fn each_one(&self, mut visit: impl FnMut(usize)) {
-        for (at, &word) in self.words.iter().enumerate() {
-            let mut rest = word;
-            while rest != 0 {
-                visit(at * 64 + rest.trailing_zeros() as usize);
-                rest &= rest - 1;
-            }
-        }
-    }
-}
-
-impl Numbers<i32> {
-    fn sum(&self) -> i32 {
-        let value = |i: usize| if self.valid.get(i) { self.values[i] } else { 0 };
-        (0..self.values.len()).map(value).fold(0, i32::wrapping_add)
-    }
-
-    fn min(&self) -> Option<i32> {
-        (0..self.values.len()).filter(|&i| self.valid.get(i)).map(|i| self.values[i]).min()
-    }
-
-    /// The rows at which the mask is true.
-    fn filter(&self, mask: &Bits) -> Numbers<i32> {
-        let mut positions = Vec::with_capacity(mask.count_ones());
-        mask.each_one(|i| positions.push(i));
-        let values = positions.iter().map(|&i| self.values[i]).collect();
-        Numbers { values, valid: Bits::from_fn(positions.len(), |i| self.valid.get(positions[i])) }
-    }
-
-    /// The row at each index, null where the index is null, and None where an index is outside.
-    fn gather(&self, indices: &Numbers<i32>) -> Option<Numbers<i32>> {
-        let len = self.values.len();
-        let mut positions = Vec::with_capacity(indices.values.len());
-        for &index in &indices.values {
-            let position = if index < 0 { index as i64 + len as i64 } else { index as i64 };
-            positions.push(usize::try_from(position).ok().filter(|&i| i < len)?);
-        }
-        let values = positions.iter().map(|&i| self.values[i]).collect();
-        let valid = Bits::from_fn(positions.len(), |i| self.valid.get(positions[i]));
-        Some(Numbers { values, valid: valid.and(&indices.valid) })
-    }
-
-    /// The value where there is one, else the filling one.
-    fn fill(&self, with: i32) -> Numbers<i32> {
-        let value = |i: usize| if self.valid.get(i) { self.values[i] } else { with };
-        Numbers { values: (0..self.values.len()).map(value).collect(), valid: Bits::ones(self.values.len()) }
-    }
-
-    fn clip(&self, low: i32, high: i32) -> Numbers<i32> {
-        let values = self.values.iter().map(|&x| x.max(low).min(high)).collect();
-        Numbers { values, valid: self.valid.clone() }
-    }
-
-    fn is_between(&self, low: i32, high: i32) -> Booleans {
-        let inside = Bits::from_fn(self.values.len(), |i| low <= self.values[i] && self.values[i] <= high);
-        Booleans { truth: inside.and(&self.valid), valid: self.valid.clone() }
-    }
-}
-
 /// The quotient rounded down, and 0 where the divisor is 0.
 fn floor_quotient(x: i32, y: i32) -> i32 {
     if y == 0 {
@@ -265,19 +204,4 @@ fn main() {
     time("zip_with", rows, times, || Numbers::choose(black_box(&p), &a, &b));
     time("negate", rows, times, || black_box(&a).negate());
     time("cast Int32 to Int64", rows, times, || black_box(&a).cast());
-    let rare = Bits::from_fn(rows as usize, |i| mixed(i as u32, other) % 100 == 0);
-    let position = |i: u32| Some((mixed(i, other) % rows.max(1)) as i32);
-    let random = Numbers::from_rows(&(0..rows).map(position).collect::<Vec<_>>());
-    let ordered = Numbers::from_rows(&(0..rows).map(|i| Some(i as i32)).collect::<Vec<_>>());
-    time("sum", rows, times, || black_box(&a).sum());
-    time("min", rows, times, || black_box(&a).min());
-    let never = Bits::from_fn(rows as usize, |_| false);
-    time("any", rows, times, || black_box(&never).words.iter().any(|&word| word != 0));
-    time("filter at a half", rows, times, || black_box(&a).filter(&p.truth));
-    time("filter at a hundredth", rows, times, || black_box(&a).filter(&rare));
-    time("gather at random", rows, times, || black_box(&a).gather(&random));
-    time("gather in order", rows, times, || black_box(&a).gather(&ordered));
-    time("fill_null", rows, times, || black_box(&a).fill(500));
-    time("clip", rows, times, || black_box(&a).clip(-500, 500));
-    time("is_between", rows, times, || black_box(&a).is_between(-500, 500));
 }

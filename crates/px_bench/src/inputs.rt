@@ -24,46 +24,12 @@ pub struct Columns {
     ghost integer: { numbers.values.value_type ≡ value_type.Int32 },
 }
 
-/// Masks that `filter` and `any` take.
-#[derive(Drop)]
-pub struct Masks {
-    /// True at one row in a hundred.
-    pub rare: Column,
-    /// True at no row.
-    pub never: Column,
-    ghost boolean: { rare.values.value_type ≡ value_type.Boolean },
-    ghost never_boolean: { never.values.value_type ≡ value_type.Boolean },
-}
-
-/// Indices that `gather` takes, one for each row.
-#[derive(Drop)]
-pub struct Positions {
-    /// Positions that look random.
-    pub random: Column,
-    /// Each row's own position.
-    pub ordered: Column,
-    ghost integer: { random.values.value_type ≡ value_type.Int32 },
-    ghost ordered_integer: { ordered.values.value_type ≡ value_type.Int32 },
-}
-
-/// Bounds of one row each.
-#[derive(Drop)]
-pub struct Bounds {
-    pub low: Column,
-    pub high: Column,
-    ghost integer: { low.values.value_type ≡ value_type.Int32 },
-    ghost high_integer: { high.values.value_type ≡ value_type.Int32 },
-}
-
 /// What the work is done on: the columns `first` and `second`, and the rows of `first`.
 #[derive(Drop)]
 pub struct Inputs {
     pub sources: Sources,
     pub first: Columns,
     pub second: Columns,
-    pub masks: Masks,
-    pub positions: Positions,
-    pub bounds: Bounds,
 }
 
 impl Sources {
@@ -88,30 +54,6 @@ impl Columns {
     }
 }
 
-impl Masks {
-    fn new(alloc: Global, rows: u32) -> Result<Masks, PlanError> {
-        let rare = boolean_column(alloc, flags_of_hundred(alloc, rows, 1)?.as_slice())?;
-        let never = boolean_column(alloc, flags_of_hundred(alloc, rows, 0)?.as_slice())?;
-        Ok(Masks { rare, never })
-    }
-}
-
-impl Positions {
-    fn new(alloc: Global, rows: u32) -> Result<Positions, PlanError> {
-        let random = number_column(alloc, row_positions(alloc, rows, true)?.as_slice())?;
-        let ordered = number_column(alloc, row_positions(alloc, rows, false)?.as_slice())?;
-        Ok(Positions { random, ordered })
-    }
-}
-
-impl Bounds {
-    fn new(alloc: Global) -> Result<Bounds, PlanError> {
-        let low = number_column(alloc, &[Some(-500)])?;
-        let high = number_column(alloc, &[Some(500)])?;
-        Ok(Bounds { low, high })
-    }
-}
-
 impl Inputs {
     /// Columns of so many rows.
     pub fn new(alloc: Global, rows: u32) -> Result<Inputs, PlanError> {
@@ -119,16 +61,10 @@ impl Inputs {
         let second = Columns::new(alloc, &others)?;
         let sources = Sources::new(alloc, rows, 0)?;
         let first = Columns::new(alloc, &sources)?;
-        let masks = Masks::new(alloc, rows)?;
-        let positions = Positions::new(alloc, rows)?;
-        let bounds = Bounds::new(alloc)?;
         Ok(Inputs {
             sources,
             first,
             second,
-            masks,
-            positions,
-            bounds,
         })
     }
 }
@@ -154,29 +90,6 @@ fn flags(alloc: Global, rows: u32, seed: u32) -> Result<Vec<Option<bool>>, PlanE
         })?;
     }
     Ok(flags)
-}
-
-/// True at so many rows of a hundred, and never null.
-fn flags_of_hundred(alloc: Global, rows: u32, trues: u32) -> Result<Vec<Option<bool>>, PlanError> {
-    let mut flags = Vec::with_capacity(alloc, rows as usize)?;
-    for place in 0..rows {
-        flags.push(Some(mixed(place, OTHER) % 100 < trues))?;
-    }
-    Ok(flags)
-}
-
-/// A position for each row: its own, or one that looks random.
-fn row_positions(alloc: Global, rows: u32, random: bool) -> Result<Vec<Option<i32>>, PlanError> {
-    let mut positions = Vec::with_capacity(alloc, rows as usize)?;
-    for place in 0..rows {
-        let position = if random {
-            mixed(place, OTHER) % rows.max(1)
-        } else {
-            place
-        };
-        positions.push(Some(position as i32))?;
-    }
-    Ok(positions)
 }
 
 /// Numbers from -1000 to 1000.

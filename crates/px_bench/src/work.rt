@@ -2,13 +2,9 @@
 ghost use Rattle.std.specs.Prelude.{◌≡◌};
 
 use crate::inputs::{Inputs, boolean_column, checked_column, number_column};
-use px_aggregates::{any, sum};
 use px_column::Column;
-use px_elementwise::{clip, fill_null, is_between};
-use px_extremes::min;
 use px_kernels::{arith, cast, compare, is_null, kleene_and, negate, zip_with};
-use px_selection::{filter, gather};
-use px_types::{AnyValue, CastOptions, ClosedInterval, DataType, Operator, PlanError};
+use px_types::{AnyValue, CastOptions, DataType, Operator, PlanError};
 use std::alloc::Global;
 
 /// A piece of work. A kernel to be timed is one more variant, with its label and its call below.
@@ -28,20 +24,10 @@ pub enum Work {
     ZipWith,
     Negate,
     Cast,
-    Sum,
-    Min,
-    Any,
-    FilterHalf,
-    FilterHundredth,
-    GatherRandom,
-    GatherInOrder,
-    FillNull,
-    Clip,
-    IsBetween,
 }
 
 /// Each piece of work, in the order in which it is timed.
-pub static ALL: [Work; 25] = [
+pub static ALL: [Work; 15] = [
     Work::BuildBoolean,
     Work::BuildInteger,
     Work::BuildByRows,
@@ -57,16 +43,6 @@ pub static ALL: [Work; 25] = [
     Work::ZipWith,
     Work::Negate,
     Work::Cast,
-    Work::Sum,
-    Work::Min,
-    Work::Any,
-    Work::FilterHalf,
-    Work::FilterHundredth,
-    Work::GatherRandom,
-    Work::GatherInOrder,
-    Work::FillNull,
-    Work::Clip,
-    Work::IsBetween,
 ];
 
 impl Work {
@@ -87,23 +63,12 @@ impl Work {
             Work::ZipWith => "zip_with",
             Work::Negate => "negate",
             Work::Cast => "cast Int32 to Int64",
-            Work::Sum => "sum",
-            Work::Min => "min",
-            Work::Any => "any",
-            Work::FilterHalf => "filter at a half",
-            Work::FilterHundredth => "filter at a hundredth",
-            Work::GatherRandom => "gather at random",
-            Work::GatherInOrder => "gather in order",
-            Work::FillNull => "fill_null",
-            Work::Clip => "clip",
-            Work::IsBetween => "is_between",
         }
     }
 
     /// Does the work once, and gives a number that depends on the answer, so that no work is left out.
     pub fn run(&self, alloc: Global, inputs: &Inputs) -> Result<u64, PlanError> {
         let sources = &inputs.sources;
-        let (masks, positions, bounds) = (&inputs.masks, &inputs.positions, &inputs.bounds);
         let (p, q) = (&inputs.first.booleans, &inputs.second.booleans);
         let (a, b) = (&inputs.first.numbers, &inputs.second.numbers);
         let answer = match self {
@@ -122,22 +87,6 @@ impl Work {
             Work::ZipWith => zip_with(alloc, p, a, b)?,
             Work::Negate => negate(alloc, a)?,
             Work::Cast => cast(alloc, a, &DataType::Int64, CastOptions::NonStrict)?,
-            Work::Sum => sum(alloc, a)?,
-            Work::Min => min(alloc, a)?,
-            Work::Any => any(alloc, &masks.never, true)?,
-            Work::FilterHalf => filter(alloc, a, p)?,
-            Work::FilterHundredth => filter(alloc, a, &masks.rare)?,
-            Work::GatherRandom => gather(alloc, a, &positions.random, false)?,
-            Work::GatherInOrder => gather(alloc, a, &positions.ordered, false)?,
-            Work::FillNull => fill_null(alloc, a, &bounds.high)?,
-            Work::Clip => clip(alloc, a, Some(&bounds.low), Some(&bounds.high))?,
-            Work::IsBetween => is_between(
-                alloc,
-                a,
-                &bounds.low,
-                &bounds.high,
-                ClosedInterval::Both,
-            )?,
         };
         Ok(last_value(&answer))
     }
